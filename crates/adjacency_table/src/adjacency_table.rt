@@ -1,12 +1,8 @@
 //! The adjacencies of all edges.
 ghost use Rattle.std.specs.Prelude.{◌≡◌, ◌<◌, ◌≤◌, ◌^◌, ℕ, List, [], Some, false, length, slice_index_or, IfOk, OnOk};
 ghost use Rattle.net_values.specs.declared.addr.Addr.{Addr};
-ghost use Rattle.net_base.specs.declared.plan.Plan.{Plan};
-ghost use Rattle.net_base.specs.plan.Accepted.{IsChecked};
-ghost use Rattle.net_base.specs.plan.Paths.{are_joined, edge_address};
-ghost use Rattle.ldp_discovery.specs.Adjacencies.{id_behind};
-ghost use Rattle.ldp_discovery.specs.Hellos.{hello_octets};
-ghost use Rattle.ldp_discovery.specs.Live.{Deed, heard, live, said, ticked};
+ghost use Rattle.net_base.specs.{declared.plan.Plan.{Plan}, plan.Accepted.{IsChecked}, plan.Paths.{are_joined, edge_address}};
+ghost use Rattle.ldp_discovery.specs.{Adjacencies.{id_behind}, Hellos.{hello_octets}, Live.{Deed, heard, live, said, ticked}};
 ghost use Rattle.adjacency_table.specs.Histories.{AreAfter, AreEdgesOf, ends_by_tick, with_deed};
 
 use ldp_discovery::{Adjacencies, HELLO_SIZE, Lapsed};

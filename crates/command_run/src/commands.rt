@@ -1,11 +1,9 @@
 //! Commands, done by a network: each makes its events, and the network does them in turn.
 ghost use Rattle.std.specs.Prelude.{◌≡◌, ◌<◌, All, false, length};
 ghost use Rattle.net_base.specs.plan.Planned.{IsFrame};
-ghost use Rattle.psn_net.specs.Lists.{network_seen};
-ghost use Rattle.psn_net.specs.Runs.{GivesNetwork, ran};
+ghost use Rattle.psn_net.specs.{Lists.{network_seen}, Runs.{GivesNetwork, ran}};
 ghost use Rattle.command_text.specs.Planned.{IsPlanned};
-ghost use Rattle.command_run.specs.Going.{IsRunGoing};
-ghost use Rattle.command_run.specs.Made.{arrivals, captures_after, deliveries, frames_entering, made_by, ticks};
+ghost use Rattle.command_run.specs.{Going.{IsRunGoing}, Made.{arrivals, captures_after, deliveries, frames_entering, made_by, ticks}};
 
 use crate::left_captures::LeftCaptures;
 use command_text::Command;

@@ -1,11 +1,9 @@
 //! The commands of a document.
-ghost use Rattle.std.specs.Prelude.{◌≡◌, ◌≤◌, ◌++◌, codes, length, IfOk, IfSome};
-ghost use Rattle.std.specs.List.{All};
+ghost use Rattle.std.specs.{Prelude.{◌≡◌, ◌≤◌, ◌++◌, codes, length, IfOk, IfSome}, List.{All}};
 ghost use Rattle.toml.specs.View.{view, items_view};
 ghost use Rattle.command_text.specs.declared.plan_names.PlanNames.{PlanNames};
 ghost use Rattle.command_text.specs.Events.{most_events, repeats_in, tick_in, play_in, one, many_of, part_command, packet_command, command_of, command_in, event_in, frame_command_behind, commands_in};
-ghost use Rattle.command_text.specs.Reading.{Gives};
-ghost use Rattle.command_text.specs.Planned.{IsCount, IsAmong, IsInPlanNames};
+ghost use Rattle.command_text.specs.{Reading.{Gives}, Planned.{IsCount, IsAmong, IsInPlanNames}};
 
 use crate::event_place::EventPlace;
 use crate::events::{

@@ -1,8 +1,7 @@
 //! The events of a document.
 ghost use Rattle.std.specs.Prelude.{◌≡◌, IfOk};
 ghost use Rattle.command_text.specs.Events.{connect_in, deliver_in, lose_in, restart_in, frame_command_behind, packet_in, wire_switch_in, circuit_switch_in, status_in, priority_event_in, ping_in};
-ghost use Rattle.command_text.specs.Reading.{Gives};
-ghost use Rattle.command_text.specs.Planned.{IsAmong};
+ghost use Rattle.command_text.specs.{Reading.{Gives}, Planned.{IsAmong}};
 
 use crate::ScenarioFault;
 use crate::plan_names::PlanNames;

@@ -1,7 +1,5 @@
 //! Names by which their places are found.
-ghost use Rattle.std.specs.Prelude.{◌≡◌, ◌<◌, ◌≤◌, [], not, length, take, get_or, IfOk, IfSome};
-ghost use Rattle.std.specs.List.{list_any};
-ghost use Rattle.std.specs.Str.{bytes_eq};
+ghost use Rattle.std.specs.{Prelude.{◌≡◌, ◌<◌, ◌≤◌, [], not, length, take, get_or, IfOk, IfSome}, List.{list_any}, Str.{bytes_eq}};
 ghost use Rattle.net_base.specs.plan.Faults.{first_clash};
 ghost use Rattle.command_text.specs.Names.{place_in, are_distinct, FindsNames};
 

@@ -1,10 +1,8 @@
 //! What the words of a command say.
 ghost use Rattle.std.specs.Prelude.{◌≡◌, ◌<◌, ◌≤◌, not, true, is_some, Some, length, option_and_then, option_map, IfOk, IfSome};
-ghost use Rattle.command_text.specs.Hex.{frame_of};
-ghost use Rattle.command_text.specs.Names.{place_in};
-ghost use Rattle.command_text.specs.Reading.{Gives, MapsTo, checked, found};
-ghost use Rattle.net_base.specs.plan.Planned.{IsFrame};
+ghost use Rattle.command_text.specs.{Hex.{frame_of}, Names.{place_in}, Reading.{Gives, MapsTo, checked, found}};
 ghost use Rattle.command_text.specs.Words.{said_word, ends_before, first_word, word_after, decimal_from, switch_of, some_word};
+ghost use Rattle.net_base.specs.plan.Planned.{IsFrame};
 
 use crate::ScenarioFault;
 use crate::decimal::decimal;

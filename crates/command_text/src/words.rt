@@ -1,6 +1,5 @@
 //! Words of a command.
-ghost use Rattle.std.specs.Prelude.{◌≡◌, ◌≤◌, length, option_map};
-ghost use Rattle.std.specs.List.{position, position_or_len};
+ghost use Rattle.std.specs.{Prelude.{◌≡◌, ◌≤◌, length, option_map}, List.{position, position_or_len}};
 ghost use Rattle.command_text.specs.Words.{after_word, first_word, is_space, word_at};
 
 // The first word, and what follows the first space.

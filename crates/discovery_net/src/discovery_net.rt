@@ -4,10 +4,7 @@ ghost use Rattle.net_base.specs.plan.Accepted.{IsChecked};
 ghost use Rattle.command_run.specs.Going.{IsRunGoing};
 ghost use Rattle.command_text.specs.Planned.{IsPlanned};
 ghost use Rattle.discovery_script.specs.Planned.{IsDiscoveryLineOf};
-ghost use Rattle.discovery_net.specs.Acts.{Tells};
-ghost use Rattle.discovery_net.specs.Deeds.{Discovery, discovery_opened};
-ghost use Rattle.discovery_net.specs.Lines.{acts_of, after_line};
-ghost use Rattle.discovery_net.specs.Lists.{Acts, IsAt};
+ghost use Rattle.discovery_net.specs.{Acts.{Tells}, Deeds.{Discovery, discovery_opened}, Lines.{acts_of, after_line}, Lists.{Acts, IsAt}};
 
 mod connections;
 mod hellos;

@@ -4,8 +4,7 @@ ghost use Rattle.net_base.specs.plan.Accepted.{IsChecked};
 ghost use Rattle.network_model.specs.State.{empty_network};
 ghost use Rattle.psn_net.specs.Runs.{ended, ran};
 ghost use Rattle.discovery_script.specs.Planned.{IsDiscoveryLineOf};
-ghost use Rattle.discovery_net.specs.Lists.{ended_at};
-ghost use Rattle.discovery_net.specs.Script.{HoldsBehindEach, events_made, script_course};
+ghost use Rattle.discovery_net.specs.{Lists.{ended_at}, Script.{HoldsBehindEach, events_made, script_course}};
 
 use crate::discovery_net::DiscoveryNet;
 use discovery_script::ScriptLine;

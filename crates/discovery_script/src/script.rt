@@ -1,10 +1,8 @@
 //! A whole script.
 ghost use Rattle.std.specs.Prelude.{◌≡◌, ◌<◌, ◌^◌, ◌-◌, All, IfOk, length};
-ghost use Rattle.net_base.specs.declared.plan.Plan.{Plan};
-ghost use Rattle.net_base.specs.plan.Accepted.{IsChecked};
+ghost use Rattle.net_base.specs.{declared.plan.Plan.{Plan}, plan.Accepted.{IsChecked}};
 ghost use Rattle.command_text.specs.Planned.{names_of};
-ghost use Rattle.discovery_script.specs.Planned.{IsDiscoveryLineOf};
-ghost use Rattle.discovery_script.specs.Lines.{discovery_lines_in, lines_of};
+ghost use Rattle.discovery_script.specs.{Planned.{IsDiscoveryLineOf}, Lines.{discovery_lines_in, lines_of}};
 ghost use Rattle.script_text.specs.Reading.{GivesScript};
 
 use crate::lines::read_line;

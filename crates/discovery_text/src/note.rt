@@ -1,9 +1,7 @@
 //! The line of a note.
-ghost use Rattle.std.specs.Prelude.{◌≡◌, ◌∷◌, [], codes, map};
-ghost use Rattle.std.specs.Fmt.{decimal};
+ghost use Rattle.std.specs.{Prelude.{◌≡◌, ◌∷◌, [], codes, map}, Fmt.{decimal}};
 ghost use Rattle.report_text.specs.Words.{edge_name};
-ghost use Rattle.text_lines.specs.Lines.{word_octets};
-ghost use Rattle.text_lines.specs.Written.{PutsOn};
+ghost use Rattle.text_lines.specs.{Lines.{word_octets}, Written.{PutsOn}};
 ghost use Rattle.text_pieces.specs.Pieces.{hex};
 ghost use Rattle.discovery_text.specs.Text.{note_line};
 

@@ -1,8 +1,7 @@
 //! A bridged domain: one service at an edge.
 ghost use Rattle.std.specs.Prelude.{◌≡◌, ◌≤◌, ◌<◌, ◌+◌, ◌==◌, ◌&&◌, not, ℕ, true, length, take, drop, slice_get, All, IfOk};
 ghost use Rattle.net_base.specs.plan.Accepted.{IsChecked};
-ghost use Rattle.hvpls_spokes.specs.Port.{is_named_port, is_wire};
-ghost use Rattle.hvpls_spokes.specs.PortSet.{holds_port};
+ghost use Rattle.hvpls_spokes.specs.{Port.{is_named_port, is_wire}, PortSet.{holds_port}};
 ghost use Rattle.mac_table.specs.Addresses.{NoneAfter};
 ghost use Rattle.vsi_bridge.specs.Targets.{heard, is_target, known_port};
 ghost use Rattle.edge_model.specs.Frame.{destination, source};

@@ -1,15 +1,10 @@
 //! What an edge forwards by.
 ghost use Rattle.std.specs.Prelude.{◌≡◌, ◌≤◌, ◌<◌, ◌↔◌, ◌⊎◌, ℕ, None, Some, [], length, map, position, replicate, true, IfOk, IfSome, IsNone};
-ghost use Rattle.net_base.specs.declared.trace.down.Down.TheVariants.{NoLocal};
-ghost use Rattle.net_base.specs.plan.Accepted.{IsChecked};
+ghost use Rattle.net_base.specs.{declared.trace.down.Down.TheVariants.{NoLocal}, plan.Accepted.{IsChecked}};
 ghost use Rattle.net_base.specs.plan.Places.{circuit_row, service_row, wire_row};
-ghost use Rattle.hvpls_spokes.specs.Port.{is_circuit_port, is_named_port, ports_of};
-ghost use Rattle.hvpls_spokes.specs.PortSet.{holds_port};
-ghost use Rattle.vsi_bridge.specs.BridgeState.{most_addresses};
-ghost use Rattle.vsi_bridge.specs.Targets.{is_target, known_port};
-ghost use Rattle.edge_model.specs.Clear.{withdrawing_at};
-ghost use Rattle.edge_model.specs.Frame.{destination, hearing};
-ghost use Rattle.edge_model.specs.Mend.{forgetting_wire};
+ghost use Rattle.hvpls_spokes.specs.{Port.{is_circuit_port, is_named_port, ports_of}, PortSet.{holds_port}};
+ghost use Rattle.vsi_bridge.specs.{BridgeState.{most_addresses}, Targets.{is_target, known_port}};
+ghost use Rattle.edge_model.specs.{Clear.{withdrawing_at}, Frame.{destination, hearing}, Mend.{forgetting_wire}};
 ghost use Rattle.edge_model.specs.State.{EdgeState, addresses_of, later, with_addresses, with_circuit, with_learned, with_ticks, with_told_down, without_port};
 ghost use Rattle.edge_model.specs.Tick.{forgetting};
 ghost use Rattle.edge_forwarding.specs.Domain.{age_of};

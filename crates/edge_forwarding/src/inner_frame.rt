@@ -1,7 +1,6 @@
 //! The inner frame of what comes by a circuit.
 ghost use Rattle.std.specs.Prelude.{◌≡◌, ◌<◌, ◌≤◌, ◌+◌, ◌++◌, Ok, Err, length, All, IfOk, MatchResult};
-ghost use Rattle.net_base.specs.plan.Accepted.{IsCircuitOf};
-ghost use Rattle.net_base.specs.trace.Isolated.{inner_at};
+ghost use Rattle.net_base.specs.{plan.Accepted.{IsCircuitOf}, trace.Isolated.{inner_at}};
 ghost use Rattle.eth_encap.specs.Fault.{cause_of};
 
 use eth_encap::{FrameFault, inner_parts};

@@ -1,9 +1,7 @@
 //! Packets of pseudowires: a frame as a terminal edge sends it, and as one reads it (RFC 4448 section 4).
 ghost use Rattle.std.specs.Prelude.{◌≡◌, ◌≤◌, ◌+◌, ◌++◌, Ok, Err, length, IfOk, MatchResult};
-ghost use Rattle.eth_encap.specs.Fault.{cause_of};
-ghost use Rattle.eth_encap.specs.Packet.{unpacked};
-ghost use Rattle.edge_model.specs.Packet.{behind_entry};
-ghost use Rattle.edge_model.specs.Send.{packet_of, pushed_vlan};
+ghost use Rattle.eth_encap.specs.{Fault.{cause_of}, Packet.{unpacked}};
+ghost use Rattle.edge_model.specs.{Packet.{behind_entry}, Send.{packet_of, pushed_vlan}};
 
 use crate::octets::{join, split_addresses};
 use eth_encap::{FrameFault, pack, unpacked_parts};

@@ -1,14 +1,8 @@
 //! What holds of the work of every edge.
-ghost use Rattle.edge_model.specs.Aging.{AddressesLastTheirAge};
-ghost use Rattle.edge_model.specs.Apart.{EchoesStayApart};
-ghost use Rattle.edge_model.specs.Local.{FramesStayLocal, PacketsStayLocal, PingsStayLocal};
-ghost use Rattle.edge_model.specs.Mended.{MendsAtOnce};
-ghost use Rattle.edge_model.specs.Parts.{EdgeHearsInParts};
-ghost use Rattle.edge_model.specs.Passed.{WithdrawalsGoOn};
-ghost use Rattle.edge_model.specs.Released.{MindsOwnReleases};
-ghost use Rattle.edge_model.specs.Restarted.{RestartsKeepSettings};
-ghost use Rattle.edge_model.specs.Rising.{EndPlacesRise};
-ghost use Rattle.edge_model.specs.StandbyBit.{SpokesAloneStandBy};
+ghost use Rattle.edge_model.specs.{Aging.{AddressesLastTheirAge}, Apart.{EchoesStayApart}};
+ghost use Rattle.edge_model.specs.{Local.{FramesStayLocal, PacketsStayLocal, PingsStayLocal}, Mended.{MendsAtOnce}};
+ghost use Rattle.edge_model.specs.{Parts.{EdgeHearsInParts}, Passed.{WithdrawalsGoOn}, Released.{MindsOwnReleases}};
+ghost use Rattle.edge_model.specs.{Restarted.{RestartsKeepSettings}, Rising.{EndPlacesRise}, StandbyBit.{SpokesAloneStandBy}};
 
 /// Local isolation of frames: what an edge lets leave on a frame of a circuit leaves at another circuit of that circuit's
 /// service, as that circuit's dress of the same inner frame; and what it sends, it sends on a wire of the same service

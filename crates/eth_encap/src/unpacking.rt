@@ -1,7 +1,6 @@
 //! A packet of a pseudowire is read.
 ghost use Rattle.std.specs.Prelude.{◌≡◌, ◌≤◌, ◌+◌, ◌++◌, length, take, drop, Ok, Err, IfOk, IfErr, OnErr};
-ghost use Rattle.eth_encap.specs.Fault.{cause_of};
-ghost use Rattle.eth_encap.specs.Packet.{behind_control, entry_of, unpacked, without_tag};
+ghost use Rattle.eth_encap.specs.{Fault.{cause_of}, Packet.{behind_control, entry_of, unpacked, without_tag}};
 
 use crate::octets::join;
 use crate::tag::TAG_PROTOCOL;

@@ -1,8 +1,6 @@
 //! The flood set.
 ghost use Rattle.std.specs.Prelude.{◌≡◌, ◌<◌, ◌≤◌, ◌&&◌, not, true, ℕ, length};
-ghost use Rattle.hvpls_spokes.specs.PortSet.{holds_port};
-ghost use Rattle.hvpls_spokes.specs.Port.{is_mesh_port};
-ghost use Rattle.hvpls_spokes.specs.Flood.{is_in_flood};
+ghost use Rattle.hvpls_spokes.specs.{PortSet.{holds_port}, Port.{is_mesh_port}, Flood.{is_in_flood}};
 
 use crate::{PortSet, Ports};
 

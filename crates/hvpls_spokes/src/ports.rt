@@ -21,8 +21,7 @@ pub struct Ports {
 
 impl Model for Ports {
     ghost use Rattle.std.specs.Prelude.{List, ◌≤◌, vec_len};
-    ghost use Rattle.hvpls_spokes.specs.Port.{ArePortsInOrder};
-    ghost use Rattle.hvpls_spokes.specs.declared.port.Port.{Port};
+    ghost use Rattle.hvpls_spokes.specs.{Port.{ArePortsInOrder}, declared.port.Port.{Port}};
 
     ghost Value = { List Port };
 

@@ -1,6 +1,5 @@
 //! What edges are to services.
-ghost use Rattle.std.specs.Prelude.{◌≡◌, ◌↔◌, ◌||◌, false, None};
-ghost use Rattle.std.specs.List.{list_any};
+ghost use Rattle.std.specs.{Prelude.{◌≡◌, ◌↔◌, ◌||◌, false, None}, List.{list_any}};
 ghost use Rattle.net_base.specs.plan.Roles.{has_port, is_circuit_at, is_spoke_edge, wire_ends_at};
 ghost use Rattle.hvpls_spokes.specs.Role.{role_of};
 

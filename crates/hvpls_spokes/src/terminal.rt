@@ -1,7 +1,6 @@
 //! Terminal edges of wires.
 ghost use Rattle.std.specs.Prelude.{◌≡◌, ◌&&◌, ◌||◌, not};
-ghost use Rattle.net_base.specs.plan.Paths.{is_first, is_last};
-ghost use Rattle.net_base.specs.plan.Places.{is_mesh_class};
+ghost use Rattle.net_base.specs.{plan.Paths.{is_first, is_last}, plan.Places.{is_mesh_class}};
 ghost use Rattle.net_base.specs.plan.Roles.{is_mesh_of, is_spoke_from, wire_ends_at};
 
 use net_base::{Class, EdgeId, ServiceId, WirePlan, first_of, last_of};

@@ -4,12 +4,8 @@ ghost use Rattle.net_base.specs.plan.Accepted.{IsChecked};
 ghost use Rattle.pw_messages.specs.LinkAnswers.{Agrees, Answers};
 ghost use Rattle.status_exchange.specs.Wish.{is_same_wish};
 ghost use Rattle.independent_model.specs.Calls.{independent_connects, independent_hears, is_connected, loses, sets, uses};
-ghost use Rattle.independent_mode.specs.Lists.{KeepsIndependent, independent_seen};
-ghost use Rattle.independent_mode.specs.Receiver.{HoldsBy};
-ghost use Rattle.independent_model.specs.State.{first_state};
-ghost use Rattle.independent_model.specs.Stops.{EndsBy};
-ghost use Rattle.independent_model.specs.Wires.{other_end};
-ghost use Rattle.independent_model.specs.Work.{Comes, CallsGoOn, NeverRefused};
+ghost use Rattle.independent_model.specs.{State.{first_state}, Stops.{EndsBy}, Wires.{other_end}, Work.{Comes, CallsGoOn, NeverRefused}};
+ghost use Rattle.independent_mode.specs.{Lists.{KeepsIndependent, independent_seen}, Receiver.{HoldsBy}};
 
 mod hearing;
 mod opening;

@@ -1,7 +1,6 @@
 //! The numbers that are kept to be given again.
 ghost use Rattle.std.specs.Prelude.{◌≡◌, ◌≤◌, ◌+◌, ◌++◌, not, map, filter, [], Some, None, is_some, length, All, vec_capacity, IfOk, IfSome, IsPermutation};
-ghost use Rattle.std.specs.BinaryHeap.{IsHeap, heap_capacity, heap_items, heap_len};
-ghost use Rattle.std.specs.Ordering.{nat_cmp};
+ghost use Rattle.std.specs.{BinaryHeap.{IsHeap, heap_capacity, heap_items, heap_len}, Ordering.{nat_cmp}};
 ghost use Rattle.net_values.specs.Label.{IsLabel};
 ghost use Rattle.label_space.specs.declared.kept.KeptState.TheVariants as state;
 ghost use Rattle.label_space.specs.Kept.{is_free, kept_at, keeps, least_free, met, met_one, rests, ticked, ticked_one, ticked_state, without_one};
@@ -30,10 +29,8 @@ pub(crate) struct KeptLabels {
 }
 
 impl Model for KeptLabels {
-    ghost use Rattle.std.specs.Prelude.{List, vec_capacity};
-    ghost use Rattle.std.specs.BinaryHeap.{heap_capacity, heap_items};
-    ghost use Rattle.label_space.specs.declared.kept.Kept.{Kept};
-    ghost use Rattle.label_space.specs.Stored.{IsHeldKept, kept_of};
+    ghost use Rattle.std.specs.{Prelude.{List, vec_capacity}, BinaryHeap.{heap_capacity, heap_items}};
+    ghost use Rattle.label_space.specs.{declared.kept.Kept.{Kept}, Stored.{IsHeldKept, kept_of}};
 
     ghost Value = { List Kept };
 

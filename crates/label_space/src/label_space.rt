@@ -32,8 +32,7 @@ pub struct LabelSpace {
 
 impl Model for LabelSpace {
     ghost use Rattle.std.specs.Prelude.{vec_capacity};
-    ghost use Rattle.label_space.specs.Labels.{LabelNumbers, IsHeldSpace};
-    ghost use Rattle.label_space.specs.Slots.{IsLabelIndex};
+    ghost use Rattle.label_space.specs.{Labels.{LabelNumbers, IsHeldSpace}, Slots.{IsLabelIndex}};
 
     ghost Value = { LabelNumbers };
 

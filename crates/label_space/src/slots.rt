@@ -1,8 +1,6 @@
 //! The slots of the owners, and the map from labels to their slots.
-ghost use Rattle.std.specs.Prelude.{◌≡◌, ◌++◌, [], ◌∷◌, None, filter, not};
-ghost use Rattle.std.specs.List.{find};
-ghost use Rattle.label_space.specs.Labels.{AreDistinctLabels, owner_of, owns};
-ghost use Rattle.label_space.specs.Slots.{AreLabelSlots, IsLabelIndex};
+ghost use Rattle.std.specs.{Prelude.{◌≡◌, ◌++◌, [], ◌∷◌, None, filter, not}, List.{find}};
+ghost use Rattle.label_space.specs.{Labels.{AreDistinctLabels, owner_of, owns}, Slots.{AreLabelSlots, IsLabelIndex}};
 
 use crate::Owner;
 use indexmap::IndexMap;

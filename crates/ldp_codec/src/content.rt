@@ -1,10 +1,7 @@
 //! What the values of TLVs hold, and the first fault of it.
 ghost use Rattle.std.specs.Prelude.{◌≡◌, ◌≤◌, ◌<◌, ◌+◌, ◌^◌, None, true, false, length, Ok, Err, IfSome};
 ghost use Rattle.pw_tlvs.specs.Faults.{IsFirstIn, IsInside, fault_place};
-ghost use Rattle.ldp_grammar.specs.FirstFault.{ContentFault, fault_in};
-ghost use Rattle.ldp_grammar.specs.Layouts.{fits, listed};
-ghost use Rattle.ldp_grammar.specs.Rows.{row_of};
-ghost use Rattle.ldp_grammar.specs.Tlvs.{HasContent};
+ghost use Rattle.ldp_grammar.specs.{FirstFault.{ContentFault, fault_in}, Layouts.{fits, listed}, Rows.{row_of}, Tlvs.{HasContent}};
 ghost use Rattle.ldp_codec.specs.Walk.{HasContents, HasLength, IsFirstContent, ReadsForeign};
 
 use crate::numbers::four;

@@ -1,13 +1,7 @@
 //! The PDU that octets spell.
 ghost use Rattle.std.specs.Prelude.{◌≡◌, ◌≢◌, ◌≤◌, ◌++◌, Ok, Err, IfOk, IfErr, IsOk};
-ghost use Rattle.ldp_grammar.specs.declared.pdu.Pdu.{Pdu};
-ghost use Rattle.ldp_grammar.specs.declared.fault.Fault.{Fault};
-ghost use Rattle.ldp_grammar.specs.Spells.{Spells};
-ghost use Rattle.ldp_grammar.specs.FirstFault.{FirstFault};
-ghost use Rattle.ldp_codec.specs.Decoded.{IsUnlessNoMemory, TellsFault, refusal_of};
-ghost use Rattle.ldp_codec.specs.Part.{joined};
-ghost use Rattle.ldp_codec.specs.Stop.{StopsAt};
-ghost use Rattle.ldp_codec.specs.Views.{IsViewOf};
+ghost use Rattle.ldp_grammar.specs.{declared.pdu.Pdu.{Pdu}, declared.fault.Fault.{Fault}, Spells.{Spells}, FirstFault.{FirstFault}};
+ghost use Rattle.ldp_codec.specs.{Decoded.{IsUnlessNoMemory, TellsFault, refusal_of}, Part.{joined}, Stop.{StopsAt}, Views.{IsViewOf}};
 
 use crate::pdu_view::view_part;
 use crate::stop::Stop;

@@ -1,9 +1,7 @@
 //! The one pass that looks for faults among the messages of a PDU.
 ghost use Rattle.std.specs.Prelude.{◌<◌, ◌≤◌, List, length, IfOk, IfErr};
-ghost use Rattle.ldp_grammar.specs.Spells.{Spelling};
-ghost use Rattle.ldp_grammar.specs.FirstFault.{IsFirst, IsFirstMessageFault, NamesMessages};
-ghost use Rattle.ldp_codec.specs.Part.{joined};
-ghost use Rattle.ldp_codec.specs.Views.{AreCounted, IsMessagePassed};
+ghost use Rattle.ldp_grammar.specs.{Spells.{Spelling}, FirstFault.{IsFirst, IsFirstMessageFault, NamesMessages}};
+ghost use Rattle.ldp_codec.specs.{Part.{joined}, Views.{AreCounted, IsMessagePassed}};
 
 use crate::Part;
 use crate::message_head::split_message;

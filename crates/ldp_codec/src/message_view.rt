@@ -1,11 +1,8 @@
 //! Messages that are lent.
 ghost use Rattle.std.specs.Prelude.{◌≡◌, ◌≤◌, ◌<◌, ◌%◌, ◌^◌, ◌↔◌, true, List, None, length, option_map, IfOk, IsSome};
-ghost use Rattle.ldp_grammar.specs.declared.message.Message.TheVariants as message;
-ghost use Rattle.ldp_grammar.specs.Rows.{kind_of, type_of};
-ghost use Rattle.ldp_grammar.specs.Spells.{Spelling, IsSpelling, StandsFor};
-ghost use Rattle.ldp_grammar.specs.Tlvs.{Tlv, IsJoined, value_of};
-ghost use Rattle.ldp_codec.specs.Part.{joined};
-ghost use Rattle.ldp_codec.specs.Views.{IsSoundSpelling};
+ghost use Rattle.ldp_grammar.specs.{declared.message.Message.TheVariants as message, Rows.{kind_of, type_of}};
+ghost use Rattle.ldp_grammar.specs.{Spells.{Spelling, IsSpelling, StandsFor}, Tlvs.{Tlv, IsJoined, value_of}};
+ghost use Rattle.ldp_codec.specs.{Part.{joined}, Views.{IsSoundSpelling}};
 
 use crate::Part;
 use crate::message_body::{processable, processed};
@@ -29,8 +26,7 @@ pub struct MessageView<'a> {
 impl<'a> Model for MessageView<'a> {
     ghost use Rattle.std.specs.Prelude.{◌≤◌, length};
     ghost use Rattle.ldp_grammar.specs.Spells.{Spelling, IsSpelling};
-    ghost use Rattle.ldp_codec.specs.Part.{joined};
-    ghost use Rattle.ldp_codec.specs.Views.{IsSoundSpelling};
+    ghost use Rattle.ldp_codec.specs.{Part.{joined}, Views.{IsSoundSpelling}};
 
     ghost Value = { Spelling };
 

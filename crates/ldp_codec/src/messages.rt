@@ -1,8 +1,7 @@
 //! Messages that are lent one after another.
 ghost use Rattle.std.specs.Prelude.{◌≡◌, ◌≤◌, ◌<◌, ◌∷◌, [], List, None, length, IfSome};
 ghost use Rattle.ldp_grammar.specs.Spells.{Spelling};
-ghost use Rattle.ldp_codec.specs.Part.{joined};
-ghost use Rattle.ldp_codec.specs.Views.{ArePassed, spellings_of, IsFirstOf};
+ghost use Rattle.ldp_codec.specs.{Part.{joined}, Views.{ArePassed, spellings_of, IsFirstOf}};
 
 use crate::Part;
 use crate::message_view::MessageView;
@@ -18,8 +17,7 @@ pub struct Messages<'a> {
 impl<'a> Model for Messages<'a> {
     ghost use Rattle.std.specs.Prelude.{◌≤◌, List, length};
     ghost use Rattle.ldp_grammar.specs.Spells.{Spelling};
-    ghost use Rattle.ldp_codec.specs.Part.{joined};
-    ghost use Rattle.ldp_codec.specs.Views.{ArePassed, spellings_of};
+    ghost use Rattle.ldp_codec.specs.{Part.{joined}, Views.{ArePassed, spellings_of}};
 
     ghost Value = { List Spelling };
 

@@ -1,8 +1,7 @@
 //! The TLVs of one type in octets that lie in two pieces.
 ghost use Rattle.std.specs.Prelude.{◌≡◌, ◌≢◌, ◌++◌, ◌<◌, ◌+◌, ◌-◌, ℕ, List, None, option_map, IfSome};
 ghost use Rattle.ldp_grammar.specs.Tlvs.{Tlv, IsJoined, IsTlv, spell_tlv, value_of};
-ghost use Rattle.ldp_codec.specs.Part.{joined};
-ghost use Rattle.ldp_codec.specs.Walk.{IsSplit};
+ghost use Rattle.ldp_codec.specs.{Part.{joined}, Walk.{IsSplit}};
 
 use crate::Part;
 use crate::tlv::TYPE_LIMIT;

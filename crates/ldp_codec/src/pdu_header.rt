@@ -1,10 +1,7 @@
 //! The header of a PDU.
 ghost use Rattle.std.specs.Prelude.{◌≡◌, ◌≤◌, ◌++◌, true, false, length, drop, take, IfOk, IfErr};
-ghost use Rattle.ldp_grammar.specs.Octets.{two as two_of};
-ghost use Rattle.ldp_grammar.specs.Spells.{IsFramed};
-ghost use Rattle.ldp_grammar.specs.FirstFault.{FirstFault, IsMiscounted};
-ghost use Rattle.ldp_codec.specs.Part.{joined};
-ghost use Rattle.ldp_codec.specs.Walk.{HasCountedLength};
+ghost use Rattle.ldp_grammar.specs.{Octets.{two as two_of}, Spells.{IsFramed}, FirstFault.{FirstFault, IsMiscounted}};
+ghost use Rattle.ldp_codec.specs.{Part.{joined}, Walk.{HasCountedLength}};
 
 use crate::Part;
 use ldp_grammar::{Cause, Fault, LEAST_LENGTH, LENGTH_HEADER, LdpId, VERSION};

@@ -1,9 +1,7 @@
 //! PDUs that are lent.
 ghost use Rattle.std.specs.Prelude.{◌≡◌, ◌≤◌, ◌<◌, Some, None, length, IfErr, IfOk, slice_get};
-ghost use Rattle.ldp_grammar.specs.declared.fault.Fault.{Fault};
-ghost use Rattle.ldp_grammar.specs.FirstFault.{FirstFault};
-ghost use Rattle.ldp_codec.specs.Part.{joined};
-ghost use Rattle.ldp_codec.specs.Views.{IsPduOf, IsViewOf};
+ghost use Rattle.ldp_grammar.specs.{declared.fault.Fault.{Fault}, FirstFault.{FirstFault}};
+ghost use Rattle.ldp_codec.specs.{Part.{joined}, Views.{IsPduOf, IsViewOf}};
 
 use crate::Part;
 use crate::message_pass::count_messages;
@@ -26,8 +24,7 @@ pub struct PduView<'a> {
 
 impl<'a> Model for PduView<'a> {
     ghost use Rattle.std.specs.Prelude.{◌≤◌, length};
-    ghost use Rattle.ldp_codec.specs.Part.{joined};
-    ghost use Rattle.ldp_codec.specs.Views.{AreCounted, SeenPdu, spellings_of};
+    ghost use Rattle.ldp_codec.specs.{Part.{joined}, Views.{AreCounted, SeenPdu, spellings_of}};
 
     ghost Value = { SeenPdu };
 

@@ -1,12 +1,9 @@
 //! The walk over the TLVs of a message.
 ghost use Rattle.std.specs.Prelude.{◌≡◌, ◌≤◌, ◌<◌, ◌+◌, List, Some, None, false, length, IfOk, IfErr, IfSome};
 ghost use Rattle.net_values.specs.declared.field.Field.{Field};
-ghost use Rattle.ldp_grammar.specs.Layouts.{fits, listed, most};
-ghost use Rattle.ldp_grammar.specs.FirstFault.{IsFirst, IsFirstTlvFault, NamesTlvs};
-ghost use Rattle.ldp_grammar.specs.Rows.{row_of};
+ghost use Rattle.ldp_grammar.specs.{Layouts.{fits, listed, most}, FirstFault.{IsFirst, IsFirstTlvFault, NamesTlvs}, Rows.{row_of}};
 ghost use Rattle.ldp_grammar.specs.Tlvs.{Tlv, IsJoined, MayComeAgain, count_of, type_in, unknown_in};
-ghost use Rattle.ldp_codec.specs.FieldSet.{HoldsListed, IsPutIn};
-ghost use Rattle.ldp_codec.specs.Walk.{HasLength, IsTaken, IsWalked};
+ghost use Rattle.ldp_codec.specs.{FieldSet.{HoldsListed, IsPutIn}, Walk.{HasLength, IsTaken, IsWalked}};
 
 use crate::content::wrong_content;
 use crate::field_set::FieldSet;

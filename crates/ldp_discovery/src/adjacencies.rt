@@ -1,7 +1,6 @@
 //! The Hello adjacencies of one edge.
 ghost use Rattle.std.specs.Prelude.{◌≡◌, ◌≤◌, ◌<◌, ◌++◌, ℕ, List, [], Some, length, drop, map, slice_get, slice_index_or, slice_set, false, IfOk, OnErr};
-ghost use Rattle.net_base.specs.plan.Accepted.{IsChecked};
-ghost use Rattle.net_base.specs.plan.Paths.{edge_address};
+ghost use Rattle.net_base.specs.{plan.Accepted.{IsChecked}, plan.Paths.{edge_address}};
 ghost use Rattle.ldp_discovery.specs.Adjacencies.{Hears, IsAfter, adjacencies_after, id_behind, is_joined_to, known_of, lapses, neighbours_from};
 ghost use Rattle.ldp_discovery.specs.Hellos.{hello_octets};
 ghost use Rattle.ldp_discovery.specs.Live.{Deed, said, ticked, adjacency_aged, is_adjacency_live, live, hold_proposed, refreshed, unknown, AreHolds};

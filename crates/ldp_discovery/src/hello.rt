@@ -1,6 +1,5 @@
 //! Hellos, written and heard.
-ghost use Rattle.std.specs.Prelude.{◌≡◌, ◌≤◌, ◌++◌, length, drop, IfOk};
-ghost use Rattle.std.specs.Str.{bytes_eq};
+ghost use Rattle.std.specs.{Prelude.{◌≡◌, ◌≤◌, ◌++◌, length, drop, IfOk}, Str.{bytes_eq}};
 ghost use Rattle.ldp_discovery.specs.Hellos.{Says, hello_octets, hold_in, hold_in_message, are_same_address, is_no_memory, is_sender, tells_address};
 
 use crate::heard::HelloFault;

@@ -1,7 +1,5 @@
 //! Laws of adjacencies. These functions do nothing when they run; their contracts are the laws.
-ghost use Rattle.ldp_discovery.specs.Adjacencies.{DeedsAreKept};
-ghost use Rattle.ldp_discovery.specs.Hellos.{HellosAreHeard};
-ghost use Rattle.ldp_discovery.specs.Live.{StandsForHistory};
+ghost use Rattle.ldp_discovery.specs.{Adjacencies.{DeedsAreKept}, Hellos.{HellosAreHeard}, Live.{StandsForHistory}};
 
 /// What is kept of a peer stands for all that was said, heard and ticked.
 #[tactic(auto, using(crate::proofs::LiveLemmas::stands))]

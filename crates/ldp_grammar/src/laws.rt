@@ -1,7 +1,5 @@
 //! What holds of the octets of every PDU.
-ghost use Rattle.ldp_grammar.specs.FirstFault.{OneReading};
-ghost use Rattle.ldp_grammar.specs.Reading.{EachIsRead};
-ghost use Rattle.ldp_grammar.specs.Written.{WrittenIsRead, WrittenIsShort};
+ghost use Rattle.ldp_grammar.specs.{FirstFault.{OneReading}, Reading.{EachIsRead}, Written.{WrittenIsRead, WrittenIsShort}};
 
 /// Octets spell one PDU at most, have one first fault at most, and never both. The maximum is one of a session, at
 /// most 4096.

@@ -1,7 +1,6 @@
 //! The known messages, by type, and the TLVs that each may have.
 ghost use Rattle.std.specs.Prelude.{◌≡◌};
-ghost use Rattle.ldp_grammar.specs.Rows.{kind_of, type_of, part_of, row_of};
-ghost use Rattle.ldp_grammar.specs.Layouts.{listed};
+ghost use Rattle.ldp_grammar.specs.{Rows.{kind_of, type_of, part_of, row_of}, Layouts.{listed}};
 
 use crate::message_type::{
     ADDRESS, ADDRESS_WITHDRAW, HELLO, INITIALIZATION, KEEP_ALIVE, LABEL_ABORT, LABEL_MAPPING,

@@ -1,9 +1,7 @@
 //! What stands in front of the octets held.
 ghost use Rattle.std.specs.Prelude.{◌≡◌, ◌≤◌, ◌+◌, Ok, None, IfErr, IfOk, IfSome, length};
 ghost use Rattle.ldp_codec.specs.Part.{joined};
-ghost use Rattle.ldp_stream.specs.Front.{HasPduHeader, IsFrontFault, IsPending, size_of};
-ghost use Rattle.ldp_stream.specs.Halt.{Halts, IsSpelledBy};
-ghost use Rattle.ldp_stream.specs.Seen.{IsSeenIn};
+ghost use Rattle.ldp_stream.specs.{Front.{HasPduHeader, IsFrontFault, IsPending, size_of}, Halt.{Halts, IsSpelledBy}, Seen.{IsSeenIn}};
 
 use ldp_codec::{Part, PduView, Stop, view_part};
 use ldp_grammar::{Cause, Fault, LEAST_LENGTH, LENGTH_HEADER, Pdu, VERSION};

@@ -1,8 +1,6 @@
 //! Changes of a table.
-ghost use Rattle.std.specs.Prelude.{◌≡◌, ◌<◌, ◌≤◌, ◌++◌, ◌∷◌, ℕ, [], filter, length, vec_capacity, vec_len, IsTrue};
-ghost use Rattle.std.specs.List.{remove};
-ghost use Rattle.mac_table.specs.Addresses.{AreDistinctAddresses, NoneAfter, learned, learning_of};
-ghost use Rattle.mac_table.specs.Removal.{keeps_entry};
+ghost use Rattle.std.specs.{Prelude.{◌≡◌, ◌<◌, ◌≤◌, ◌++◌, ◌∷◌, ℕ, [], filter, length, vec_capacity, vec_len, IsTrue}, List.{remove}};
+ghost use Rattle.mac_table.specs.{Addresses.{AreDistinctAddresses, NoneAfter, learned, learning_of}, Removal.{keeps_entry}};
 
 use crate::index::{add, put_at, refill};
 use crate::removal::Removal;

@@ -1,8 +1,7 @@
 //! The map beside the entries of a table.
 ghost use Rattle.std.specs.Prelude.{◌≡◌, ◌≤◌, ◌+◌, ◌++◌, [], ◌∷◌, false, length};
 ghost use Rattle.indexmap.specs.IndexMap.{index_map_len, set_value_at, spare};
-ghost use Rattle.mac_table.specs.Addresses.{AreDistinctAddresses, has_address};
-ghost use Rattle.mac_table.specs.Index.{IsAddressIndex, address_pairs};
+ghost use Rattle.mac_table.specs.{Addresses.{AreDistinctAddresses, has_address}, Index.{IsAddressIndex, address_pairs}};
 
 use crate::MacEntry;
 use indexmap::IndexMap;

@@ -25,9 +25,7 @@ pub struct MacTable {
 
 impl Model for MacTable {
     ghost use Rattle.std.specs.Prelude.{vec_capacity};
-    ghost use Rattle.mac_table.specs.Addresses.{AddressTable, IsHeld};
-    ghost use Rattle.mac_table.specs.Index.{IsAddressIndex};
-    ghost use Rattle.mac_table.specs.Ticks.{IsTickIndex};
+    ghost use Rattle.mac_table.specs.{Addresses.{AddressTable, IsHeld}, Index.{IsAddressIndex}, Ticks.{IsTickIndex}};
 
     ghost Value = { AddressTable };
 

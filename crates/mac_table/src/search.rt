@@ -1,7 +1,6 @@
 //! Where an address stands among entries.
 ghost use Rattle.std.specs.Prelude.{◌≡◌};
-ghost use Rattle.mac_table.specs.Addresses.{is_of, entry_place, port_of, is_listed};
-ghost use Rattle.mac_table.specs.Index.{IsAddressIndex};
+ghost use Rattle.mac_table.specs.{Addresses.{is_of, entry_place, port_of, is_listed}, Index.{IsAddressIndex}};
 
 use crate::MacEntry;
 use indexmap::IndexMap;

@@ -1,7 +1,6 @@
 //! The ticks of the entries of a table, each with the number of entries that have it.
 ghost use Rattle.std.specs.Prelude.{◌≡◌, ◌-◌, ◌<◌, ◌≤◌, ◌==◌, ◌++◌, ◌⊎◌, ℕ, [], ◌∷◌, All, filter, if◌then◌else◌, length, nat_lt, not, slice_set, true, IsTrue};
-ghost use Rattle.mac_table.specs.Addresses.{NoneAfter, is_young};
-ghost use Rattle.mac_table.specs.Removal.{keeps_entry};
+ghost use Rattle.mac_table.specs.{Addresses.{NoneAfter, is_young}, Removal.{keeps_entry}};
 ghost use Rattle.mac_table.specs.Ticks.{AreRisingTicks, AreTickNumbers, IsTickIndex, tick_count, tick_number};
 
 use crate::MacEntry;

@@ -1,7 +1,6 @@
 //! Pieces of the line of a message. Each is added at the end of a text; after `NoMemory` a front of the piece may
 //! stand there.
-ghost use Rattle.std.specs.Prelude.{◌≡◌, ◌++◌, ◌∷◌, [], codes, map, OnOk};
-ghost use Rattle.std.specs.Fmt.{decimal};
+ghost use Rattle.std.specs.{Prelude.{◌≡◌, ◌++◌, ◌∷◌, [], codes, map, OnOk}, Fmt.{decimal}};
 ghost use Rattle.text_pieces.specs.Pieces.{spaced};
 ghost use Rattle.message_text.specs.Words.{dotted, flag, id_word, marked, parted};
 

@@ -1,13 +1,10 @@
 //! The texts of commands.
-ghost use Rattle.std.specs.Prelude.{◌≡◌, ◌∷◌, ◌++◌, [], map, string_bytes, IfOk, OnOk};
-ghost use Rattle.std.specs.List.{All};
-ghost use Rattle.std.specs.Str.{IsUtf8};
+ghost use Rattle.std.specs.{Prelude.{◌≡◌, ◌∷◌, ◌++◌, [], map, string_bytes, IfOk, OnOk}, List.{All}, Str.{IsUtf8}};
 ghost use Rattle.toml.specs.View.{view};
 ghost use Rattle.event_laws.specs.Law.{joined_words, HasNames};
 ghost use Rattle.text_lines.specs.Lines.{word_octets};
 ghost use Rattle.text_pieces.specs.Pieces.{spaced};
-ghost use Rattle.migrated_text.specs.Commands.{command_text, event_items};
-ghost use Rattle.migrated_text.specs.Sayable.{IsSayable};
+ghost use Rattle.migrated_text.specs.{Commands.{command_text, event_items}, Sayable.{IsSayable}};
 
 use command_text::Command;
 use net_base::{NoMemory, Plan};

@@ -1,13 +1,8 @@
 //! Whole documents.
-ghost use Rattle.std.specs.Prelude.{◌≡◌, Some, codes, false, map, string_bytes, IfOk, OnOk};
-ghost use Rattle.std.specs.List.{All};
-ghost use Rattle.toml.specs.Parse.{parse_document};
-ghost use Rattle.toml.specs.Text.{IsDocumentText};
-ghost use Rattle.toml.specs.View.{table_view};
-ghost use Rattle.toml.specs.Data.{table as table_data};
+ghost use Rattle.std.specs.{Prelude.{◌≡◌, Some, codes, false, map, string_bytes, IfOk, OnOk}, List.{All}};
+ghost use Rattle.toml.specs.{Parse.{parse_document}, Text.{IsDocumentText}, View.{table_view}, Data.{table as table_data}};
 ghost use Rattle.toml_tables.specs.Tables.{put_some};
-ghost use Rattle.migrated_text.specs.Groups.{used_groups};
-ghost use Rattle.migrated_text.specs.Migrated.{plan_table, migrated};
+ghost use Rattle.migrated_text.specs.{Groups.{used_groups}, Migrated.{plan_table, migrated}};
 ghost use Rattle.migrated_text.specs.Rows.{edge_table, service_table, group_table, circuit_table, wire_table};
 ghost use Rattle.migrated_text.specs.Sayable.{HasTexts, IsSayable, IsSayableScenario};
 ghost use Rattle.event_laws.specs.Law.{HasNames};

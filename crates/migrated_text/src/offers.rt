@@ -1,9 +1,7 @@
 //! Offers as tables.
-ghost use Rattle.std.specs.Prelude.{◌≡◌, ◌++◌, codes, unwrap_or, string_bytes, IfOk, OnOk};
-ghost use Rattle.std.specs.Str.{IsUtf8};
+ghost use Rattle.std.specs.{Prelude.{◌≡◌, ◌++◌, codes, unwrap_or, string_bytes, IfOk, OnOk}, Str.{IsUtf8}};
 ghost use Rattle.toml.specs.View.{table_view};
-ghost use Rattle.migrated_text.specs.Groups.{group_name};
-ghost use Rattle.migrated_text.specs.Rows.{offer_table, put_group};
+ghost use Rattle.migrated_text.specs.{Groups.{group_name}, Rows.{offer_table, put_group}};
 
 use crate::names::mode_text;
 use net_base::{NoMemory, Offer};

@@ -1,9 +1,6 @@
 //! Rows as tables.
-ghost use Rattle.std.specs.Prelude.{◌≡◌, map, string_bytes, IfOk};
-ghost use Rattle.std.specs.List.{All};
-ghost use Rattle.std.specs.Net.Text.{ipv4_text};
-ghost use Rattle.toml.specs.Data.{string, table};
-ghost use Rattle.toml.specs.View.{view, table_view};
+ghost use Rattle.std.specs.{Prelude.{◌≡◌, map, string_bytes, IfOk}, List.{All}, Net.Text.{ipv4_text}};
+ghost use Rattle.toml.specs.{Data.{string, table}, View.{view, table_view}};
 ghost use Rattle.report_text.specs.Words.{edge_name};
 ghost use Rattle.migrated_text.specs.Rows.{edge_table, service_table, group_table, circuit_table, ends_table, wire_table};
 ghost use Rattle.migrated_text.specs.Sayable.{HasTexts};

@@ -1,9 +1,7 @@
 //! The frames of a capture.
 ghost use Rattle.std.specs.Prelude.{◌≡◌, ◌≤◌, ◌<◌, ◌+◌, ◌++◌, ◌^◌, ℕ, List, length, take, Some, Ok, Err, IfOk, IfErr};
-ghost use Rattle.pcap_file.specs.declared.capture_fault.CaptureFault.{CaptureFault};
-ghost use Rattle.pcap_file.specs.Answers.{TellsCaptureFault, IsCaptureUnlessNoMemory};
-ghost use Rattle.pcap_file.specs.Fields.{first_field_fault, record_fields};
-ghost use Rattle.pcap_file.specs.FirstFault.{IsHeaderFault, IsFirstFault, HasBrokenRecord};
+ghost use Rattle.pcap_file.specs.{declared.capture_fault.CaptureFault.{CaptureFault}, Answers.{TellsCaptureFault, IsCaptureUnlessNoMemory}};
+ghost use Rattle.pcap_file.specs.{Fields.{first_field_fault, record_fields}, FirstFault.{IsHeaderFault, IsFirstFault, HasBrokenRecord}};
 ghost use Rattle.pcap_file.specs.Records.{HasHeader, IsCapture, AreRecords, IsPacketRecord};
 
 use crate::endianness::Endianness;

@@ -2,17 +2,11 @@
 ghost use Rattle.std.specs.Prelude.{◌≡◌, ◌≤◌, [], length, IfOk, OnOk, Some, None};
 ghost use Rattle.net_base.specs.declared.trace.state_name.Reason.TheVariants as reason;
 ghost use Rattle.ldp_codec.specs.declared.decode_fault.DecodeFault.{DecodeFault};
-ghost use Rattle.session_core.specs.Messages.{HasData};
-ghost use Rattle.session_core.specs.Session.{phase_name, view_of};
-ghost use Rattle.session_core.specs.State.{IsProper};
+ghost use Rattle.session_core.specs.{Messages.{HasData}, Session.{phase_name, view_of}, State.{IsProper}};
 ghost use Rattle.session_core.specs.Table.{Closed, Refused, view_next, view_said};
 ghost use Rattle.pw_messages.specs.LinkAnswers.{Agrees, Answers};
-ghost use Rattle.edge_model.specs.Hear.{is_up_phase};
-ghost use Rattle.edge_model.specs.Put.{put_reply};
-ghost use Rattle.edge_model.specs.Session.{had_put, happens};
-ghost use Rattle.edge_model.specs.State.{EdgeState};
-ghost use Rattle.peer_dialogue.specs.AtWork.{WorkGoes};
-ghost use Rattle.peer_dialogue.specs.Event.{MayHappen, event_of};
+ghost use Rattle.edge_model.specs.{Hear.{is_up_phase}, Put.{put_reply}, Session.{had_put, happens}, State.{EdgeState}};
+ghost use Rattle.peer_dialogue.specs.{AtWork.{WorkGoes}, Event.{MayHappen, event_of}};
 ghost use Rattle.peer_dialogue.specs.Peering.{at_peer, connection_with, had_spoken, is_over, put_message};
 ghost use Rattle.peer_dialogue.specs.PwMessage.{CanBeSaid, numbered};
 

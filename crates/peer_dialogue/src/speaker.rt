@@ -1,17 +1,10 @@
 //! Who puts messages to a neighbour.
-ghost use Rattle.std.specs.Prelude.{◌≡◌, ◌≤◌, ◌+◌, ◌++◌, ◌∷◌, [], ℕ, List, Some, length, true, false, not, IfOk};
-ghost use Rattle.std.specs.List.{AllByRecursion};
+ghost use Rattle.std.specs.{Prelude.{◌≡◌, ◌≤◌, ◌+◌, ◌++◌, ◌∷◌, [], ℕ, List, Some, length, true, false, not, IfOk}, List.{AllByRecursion}};
 ghost use Rattle.ldp_grammar.specs.Written.{written};
-ghost use Rattle.session_core.specs.Messages.{HasData, message_of};
-ghost use Rattle.session_core.specs.State.{SessionState};
-ghost use Rattle.pw_messages.specs.LinkAnswers.{Agrees, Answers};
-ghost use Rattle.pw_messages.specs.Sender.{following, platform_of};
-ghost use Rattle.edge_model.specs.Put.{put_octets, put_replies, put_reply};
-ghost use Rattle.edge_model.specs.State.{EdgeState};
-ghost use Rattle.edge_model.specs.Work.{GoesOn};
-ghost use Rattle.peer_dialogue.specs.AtWork.{WorkGoes};
-ghost use Rattle.peer_dialogue.specs.Peering.{at_peer, having_put, put_message};
-ghost use Rattle.peer_dialogue.specs.PwMessage.{CanBeSaid, numbered};
+ghost use Rattle.session_core.specs.{Messages.{HasData, message_of}, State.{SessionState}};
+ghost use Rattle.pw_messages.specs.{LinkAnswers.{Agrees, Answers}, Sender.{following, platform_of}};
+ghost use Rattle.edge_model.specs.{Put.{put_octets, put_replies, put_reply}, State.{EdgeState}, Work.{GoesOn}};
+ghost use Rattle.peer_dialogue.specs.{AtWork.{WorkGoes}, Peering.{at_peer, having_put, put_message}, PwMessage.{CanBeSaid, numbered}};
 
 use crate::at_work::AtWork;
 use crate::pw_message::PwMessage;

@@ -1,8 +1,7 @@
 //! Echo packets, each in a buffer of its own.
 ghost use Rattle.std.specs.Prelude.{◌≡◌, ◌≤◌, length, take, IfOk};
 ghost use Rattle.edge_model.specs.Echo.{channel_octets};
-ghost use Rattle.vccv_channel.specs.Echo.{answer_packet, request_packet};
-ghost use Rattle.vccv_channel.specs.Reading.{IsRequest};
+ghost use Rattle.vccv_channel.specs.{Echo.{answer_packet, request_packet}, Reading.{IsRequest}};
 
 use net_base::{List, NoMemory, Octets};
 use pw_signalling::Binding;

@@ -1,25 +1,17 @@
 //! One provider edge.
 ghost use Rattle.std.specs.Prelude.{◌≡◌, ◌<◌, ◌≤◌, ◌↔◌, ◌⊎◌, Some, None, true, false, [], length, IfOk, IfErr, IfSome, IsNone, IsErrOf, OnOk, position};
 ghost use Rattle.std.specs.List.{find};
-ghost use Rattle.net_base.specs.plan.Accepted.{IsChecked};
-ghost use Rattle.net_base.specs.plan.Places.{service_row};
+ghost use Rattle.net_base.specs.{plan.Accepted.{IsChecked}, plan.Places.{service_row}};
 ghost use Rattle.pw_messages.specs.LinkAnswers.{Agrees, Answers};
 ghost use Rattle.hvpls_spokes.specs.Port.{ports_of};
 ghost use Rattle.pw_signalling.specs.AnyEnd.{end_of};
-ghost use Rattle.edge_model.specs.EndPlaces.{end_places, ends_here, is_end_of_wire};
-ghost use Rattle.edge_model.specs.Role.{down_at};
-ghost use Rattle.edge_model.specs.State.{addresses_of, empty_edge, end_at, has_end, is_on};
-ghost use Rattle.edge_model.specs.Step.{edge_step};
-ghost use Rattle.edge_model.specs.Synced.{InSync};
+ghost use Rattle.edge_model.specs.{EndPlaces.{end_places, ends_here, is_end_of_wire}, Role.{down_at}};
+ghost use Rattle.edge_model.specs.{State.{addresses_of, empty_edge, end_at, has_end, is_on}, Step.{edge_step}, Synced.{InSync}};
 ghost use Rattle.edge_model.specs.Work.{GoesOn, beginning};
 ghost use Rattle.edge_forwarding.specs.Domain.{age_of};
-ghost use Rattle.provider_edge.specs.Bounds.{IsBounded};
-ghost use Rattle.provider_edge.specs.EndOf.{is_of_segment};
+ghost use Rattle.provider_edge.specs.{Bounds.{IsBounded}, EndOf.{is_of_segment}, Said.{AllFit, TellsTaken}, Taking.{IsInRange, StaysLocal}};
+ghost use Rattle.provider_edge.specs.{AtWork.{Takes, worked_at}, Lists.{seen, worked}};
 ghost use Rattle.peer_dialogue.specs.Peering.{held_octets, session_name};
-ghost use Rattle.provider_edge.specs.Said.{AllFit, TellsTaken};
-ghost use Rattle.provider_edge.specs.Taking.{IsInRange, StaysLocal};
-ghost use Rattle.provider_edge.specs.AtWork.{Takes, worked_at};
-ghost use Rattle.provider_edge.specs.Lists.{seen, worked};
 
 mod administration;
 mod frames;
@@ -66,8 +58,7 @@ pub struct Edge {
 }
 
 impl Model for Edge {
-    ghost use Rattle.provider_edge.specs.Invariant.{IsEdge};
-    ghost use Rattle.provider_edge.specs.Lists.{EdgeLists};
+    ghost use Rattle.provider_edge.specs.{Invariant.{IsEdge}, Lists.{EdgeLists}};
 
     ghost Value = { EdgeLists };
 

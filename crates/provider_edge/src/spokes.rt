@@ -1,11 +1,7 @@
 //! The spokes of a spoke edge, and which of them it has chosen.
 ghost use Rattle.std.specs.Prelude.{◌≡◌, ◌≤◌, ◌<◌, ◌++◌, ◌∷◌, [], None, Some, true, length, map, not, replicate, slice_set, if◌then◌else◌, IfOk, OnOk};
-ghost use Rattle.net_base.specs.plan.Accepted.{IsChecked};
-ghost use Rattle.net_base.specs.plan.Paths.{is_first};
-ghost use Rattle.net_base.specs.plan.Places.{is_mesh_class, wire_row};
-ghost use Rattle.edge_model.specs.EndPlaces.{end_places};
-ghost use Rattle.edge_model.specs.Spokes.{is_spoke_row};
-ghost use Rattle.edge_model.specs.Wire.{is_own_spoke};
+ghost use Rattle.net_base.specs.{plan.Accepted.{IsChecked}, plan.Paths.{is_first}, plan.Places.{is_mesh_class, wire_row}};
+ghost use Rattle.edge_model.specs.{EndPlaces.{end_places}, Spokes.{is_spoke_row}, Wire.{is_own_spoke}};
 ghost use Rattle.provider_edge.specs.Spokes.{AreSlots, IsNewSpokes, slots_for, slots_in, unchosen};
 ghost use Rattle.edge_forwarding.specs.Views.{view};
 

@@ -1,11 +1,8 @@
 //! Packets under way by number.
 ghost use Rattle.std.specs.Prelude.{◌≡◌, ◌<◌, ◌≤◌, ◌+◌, ◌^◌, ◌↔◌, ℕ, [], true, cond, IsTrue, Some, None, length, option_copied, slice_get, IfSome, IsSome, OnErr, OnOk};
-ghost use Rattle.std.specs.BTreeMap.{insert_entry, is_at};
-ghost use Rattle.std.specs.List.Sorted.{IsStrictlySortedBy};
-ghost use Rattle.std.specs.Map.{keys_of, remove_entry};
+ghost use Rattle.std.specs.{BTreeMap.{insert_entry, is_at}, List.Sorted.{IsStrictlySortedBy}, Map.{keys_of, remove_entry}};
 ghost use Rattle.std.specs.Ordering.{nat_cmp};
-ghost use Rattle.psn_net.specs.ByNumber.{placed_from};
-ghost use Rattle.psn_net.specs.Packets.{kept_under};
+ghost use Rattle.psn_net.specs.{ByNumber.{placed_from}, Packets.{kept_under}};
 
 use crate::carried::Carried;
 use crate::ring::Ring;

@@ -1,8 +1,6 @@
 //! The calls that a link took. They exist in proofs alone.
-ghost use Rattle.std.specs.Prelude.{◌≡◌, ◌++◌, ◌∷◌, [], List, true};
-ghost use Rattle.std.specs.Borrow.{ftrue};
-ghost use Rattle.net_base.specs.declared.outside.link_call.LinkCall.{LinkCall};
-ghost use Rattle.net_base.specs.outside.Link.{call_of};
+ghost use Rattle.std.specs.{Prelude.{◌≡◌, ◌++◌, ◌∷◌, [], List, true}, Borrow.{ftrue}};
+ghost use Rattle.net_base.specs.{declared.outside.link_call.LinkCall.{LinkCall}, outside.Link.{call_of}};
 
 use crate::call::Call;
 use std::marker::Model;

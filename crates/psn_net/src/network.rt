@@ -1,16 +1,10 @@
 //! The network of a run.
 ghost use Rattle.std.specs.Prelude.{◌≡◌, ◌<◌, ◌≤◌, ◌++◌, ◌^◌, ◌-◌, ◌↔◌, [], min, true, false, length, None, IfErr, IfOk, IfSome, IsSome, OnOk};
-ghost use Rattle.net_base.specs.plan.Accepted.{IsChecked};
-ghost use Rattle.net_base.specs.plan.Planned.{IsEventOf};
+ghost use Rattle.net_base.specs.{plan.Accepted.{IsChecked}, plan.Planned.{IsEventOf}};
 ghost use Rattle.provider_edge.specs.Lists.{seen as seen_edge};
-ghost use Rattle.network_model.specs.Connection.{is_deliverable};
-ghost use Rattle.network_model.specs.Delivery.{first_pair, next_delivery};
-ghost use Rattle.network_model.specs.Packet.{next_arrival};
-ghost use Rattle.network_model.specs.State.{edge_at, empty_network};
-ghost use Rattle.network_model.specs.Step.{step};
-ghost use Rattle.psn_net.specs.Applying.{Stops};
-ghost use Rattle.psn_net.specs.Lists.{network_seen};
-ghost use Rattle.psn_net.specs.Weight.{stop_at, weight_of};
+ghost use Rattle.network_model.specs.{Connection.{is_deliverable}, Delivery.{first_pair, next_delivery}, Packet.{next_arrival}};
+ghost use Rattle.network_model.specs.{State.{edge_at, empty_network}, Step.{step}};
+ghost use Rattle.psn_net.specs.{Applying.{Stops}, Lists.{network_seen}, Weight.{stop_at, weight_of}};
 
 mod calm;
 mod marking;
@@ -39,8 +33,7 @@ pub struct Network {
 
 impl Model for Network {
     ghost use Rattle.std.specs.Prelude.{◌≡◌, false, length};
-    ghost use Rattle.psn_net.specs.DeliveryIndex.{IsIndexed};
-    ghost use Rattle.psn_net.specs.Lists.{NetLists};
+    ghost use Rattle.psn_net.specs.{DeliveryIndex.{IsIndexed}, Lists.{NetLists}};
 
     ghost Value = { NetLists };
 

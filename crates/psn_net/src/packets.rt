@@ -1,8 +1,7 @@
 //! The packets under way.
 ghost use Rattle.std.specs.Prelude.{◌≡◌, ◌<◌, ◌≤◌, ◌+◌, ◌++◌, ◌∷◌, ◌^◌, ◌&&◌, [], true, cond, nat_lt, Some, None, length, slice_get, option_map, IfOk, IfSome, OnErr, OnOk};
-ghost use Rattle.std.specs.List.{find};
+ghost use Rattle.std.specs.{List.{find}, BTreeMap.{is_at}};
 ghost use Rattle.network_model.specs.State.{all_older, without_number};
-ghost use Rattle.std.specs.BTreeMap.{is_at};
 ghost use Rattle.psn_net.specs.Packets.{has_sending, is_aged, is_numbered, number_of, kept_packet, sending_order, with_copy_of, without_aged};
 
 use crate::by_number::ByNumber;

@@ -1,16 +1,10 @@
 //! The parts of a network.
 ghost use Rattle.std.specs.Prelude.{◌≡◌, ◌<◌, ◌+◌, ◌++◌, ◌∷◌, ◌^◌, ◌-◌, ◌↔◌, [], min, true, false, length, IfOk, IfSome, IsSome, OnErr, OnOk};
-ghost use Rattle.net_base.specs.plan.Accepted.{IsChecked};
-ghost use Rattle.net_base.specs.plan.Planned.{IsEventOf};
+ghost use Rattle.net_base.specs.{plan.Accepted.{IsChecked}, plan.Planned.{IsEventOf}};
 ghost use Rattle.edge_model.specs.Step.{edge_step};
-ghost use Rattle.provider_edge.specs.Lists.{seen as seen_edge};
-ghost use Rattle.provider_edge.specs.Said.{AllFit};
-ghost use Rattle.provider_edge.specs.Taking.{IsInRange};
-ghost use Rattle.network_model.specs.Absorb.{begin_at, taken_all};
-ghost use Rattle.network_model.specs.State.{edge_at, empty_network};
-ghost use Rattle.network_model.specs.Step.{step};
-ghost use Rattle.psn_net.specs.Lists.{HasDriven, HasRoom, HasStepped, KeepsNetwork, network_seen};
-ghost use Rattle.psn_net.specs.Weight.{may_send, stop_at, weight_of};
+ghost use Rattle.provider_edge.specs.{Lists.{seen as seen_edge}, Said.{AllFit}, Taking.{IsInRange}};
+ghost use Rattle.network_model.specs.{Absorb.{begin_at, taken_all}, State.{edge_at, empty_network}, Step.{step}};
+ghost use Rattle.psn_net.specs.{Lists.{HasDriven, HasRoom, HasStepped, KeepsNetwork, network_seen}, Weight.{may_send, stop_at, weight_of}};
 
 mod absorb;
 mod calm;

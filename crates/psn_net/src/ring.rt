@@ -17,8 +17,7 @@ pub struct Ring {
 
 impl Model for Ring {
     ghost use Rattle.std.specs.Prelude.{◌≡◌, false, List, Option};
-    ghost use Rattle.psn_net.specs.declared.carried.Carried.{Carried};
-    ghost use Rattle.psn_net.specs.ByNumber.{holes_in, starts_empty};
+    ghost use Rattle.psn_net.specs.{declared.carried.Carried.{Carried}, ByNumber.{holes_in, starts_empty}};
 
     ghost Value = { List (Option Carried) };
 

@@ -1,9 +1,7 @@
 //! The plan of a network, and which of its edges are joined.
 ghost use Rattle.std.specs.Prelude.{◌≡◌, ◌==◌, ◌&&◌, ◌||◌, ◌<◌, ℕ, true, length, IfOk};
-ghost use Rattle.net_base.specs.plan.Accepted.{IsChecked};
-ghost use Rattle.net_base.specs.plan.Paths.{are_joined, joins, joins_first};
-ghost use Rattle.psn_net.specs.PairIndex.{has_mark};
-ghost use Rattle.psn_net.specs.SharedPlan.{IsJoinedIndex, are_below};
+ghost use Rattle.net_base.specs.{plan.Accepted.{IsChecked}, plan.Paths.{are_joined, joins, joins_first}};
+ghost use Rattle.psn_net.specs.{PairIndex.{has_mark}, SharedPlan.{IsJoinedIndex, are_below}};
 
 use crate::pair_index::PairIndex;
 use net_base::{EdgeId, NoMemory, Plan};

@@ -1,7 +1,6 @@
 //! What becomes of an end.
 ghost use Rattle.std.specs.Prelude.{◌≡◌};
-ghost use Rattle.pw_signalling.specs.AnyEnd.{end_of};
-ghost use Rattle.pw_signalling.specs.Rows.{advertised, renewed, telling, withdrawn};
+ghost use Rattle.pw_signalling.specs.{AnyEnd.{end_of}, Rows.{advertised, renewed, telling, withdrawn}};
 ghost use Rattle.pw_ends.specs.Changes.{changed};
 
 use net_base::Label;

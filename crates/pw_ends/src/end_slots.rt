@@ -1,9 +1,6 @@
 //! Ends by their slots.
 ghost use Rattle.std.specs.Prelude.{◌≡◌, ◌<◌, length, map, slice_index_or, replicate, IfOk};
-ghost use Rattle.pw_signalling.specs.AnyEnd.{end_of};
-ghost use Rattle.pw_signalling.specs.End.{fresh};
-ghost use Rattle.pw_signalling.specs.Laws.{own_label};
-ghost use Rattle.pw_signalling.specs.Rows.{advertised, bound};
+ghost use Rattle.pw_signalling.specs.{AnyEnd.{end_of}, End.{fresh}, Laws.{own_label}, Rows.{advertised, bound}};
 ghost use Rattle.pw_ends.specs.Changes.{changed, changed_in};
 
 use crate::end_change::{EndChange, advertise};

@@ -1,6 +1,5 @@
 //! Slots by the labels that their ends own.
-ghost use Rattle.std.specs.Prelude.{◌≡◌, ◌≤◌, ◌<◌, [], None, not, filter, length, slice_get, vec_capacity, IfOk};
-ghost use Rattle.std.specs.List.{find, insert};
+ghost use Rattle.std.specs.{Prelude.{◌≡◌, ◌≤◌, ◌<◌, [], None, not, filter, length, slice_get, vec_capacity, IfOk}, List.{find, insert}};
 ghost use Rattle.hvpls_spokes.specs.Search.{kept_if};
 ghost use Rattle.label_space.specs.Kept.{put_by};
 ghost use Rattle.pw_ends.specs.declared.owned_labels.OwnedLabel.{OwnedLabel};

@@ -4,10 +4,7 @@ ghost use Rattle.std.specs.List.{list_any};
 ghost use Rattle.net_base.specs.plan.Accepted.{IsChecked};
 ghost use Rattle.hvpls_spokes.specs.Search.{place_if};
 ghost use Rattle.edge_model.specs.EndPlaces.{end_places, is_at, is_end_of_wire, is_named, is_of_wire};
-ghost use Rattle.pw_ends.specs.Kept.{AreApart};
-ghost use Rattle.pw_ends.specs.Names.{FindsSlots, end_name_of};
-ghost use Rattle.pw_ends.specs.Order.{AreEndsInOrder};
-ghost use Rattle.pw_ends.specs.Ends.{no_place};
+ghost use Rattle.pw_ends.specs.{Kept.{AreApart}, Names.{FindsSlots, end_name_of}, Order.{AreEndsInOrder}, Ends.{no_place}};
 
 use crate::plan_places::end_places;
 use edge_model::EndPlace;
@@ -32,8 +29,7 @@ impl Model for PlaceList {
 
     ghost view = { λ l. l.list };
 
-    ghost use Rattle.pw_ends.specs.Names.{FindsSlots};
-    ghost use Rattle.pw_ends.specs.Order.{AreEndsInOrder};
+    ghost use Rattle.pw_ends.specs.{Names.{FindsSlots}, Order.{AreEndsInOrder}};
 
     ghost invariant = { λ l. FindsSlots l.list l.index.entries × AreEndsInOrder l.list };
 }

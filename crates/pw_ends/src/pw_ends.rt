@@ -2,20 +2,15 @@
 ghost use Rattle.std.specs.Prelude.{◌≡◌, ◌≤◌, ◌<◌, ◌==◌, ◌↔◌, ℕ, List, Some, None, [], true, length, map, position, replicate, slice_get, is_some, option_and_then, option_map, IfOk, IfSome};
 ghost use Rattle.std.specs.List.{find, list_any};
 ghost use Rattle.net_base.specs.plan.Accepted.{IsChecked};
-ghost use Rattle.label_space.specs.declared.kept.Kept.{Kept};
-ghost use Rattle.label_space.specs.Kept.{without};
+ghost use Rattle.label_space.specs.{declared.kept.Kept.{Kept}, Kept.{without}};
 ghost use Rattle.label_space.specs.Labels.{meeting_neighbour, next_after, number_to_give, numbers_end, opened_space, owner_of, ticking};
-ghost use Rattle.pw_signalling.specs.AnyEnd.{end_of};
-ghost use Rattle.pw_signalling.specs.End.{fresh};
-ghost use Rattle.pw_signalling.specs.Laws.{own_label};
+ghost use Rattle.pw_signalling.specs.{AnyEnd.{end_of}, End.{fresh}, Laws.{own_label}};
 ghost use Rattle.pw_signalling.specs.Rows.{advertised, bound, group_unbound, lost, withdrawn};
 ghost use Rattle.edge_model.specs.EndPlaces.{end_places, is_at, is_end_of_wire, is_named, is_of_wire};
-ghost use Rattle.edge_model.specs.Labels.{keeps_lost, keeps_one, keeps_owned, left_label, owners_of};
-ghost use Rattle.edge_model.specs.Packet.{advertises_label};
+ghost use Rattle.edge_model.specs.{Labels.{keeps_lost, keeps_one, keeps_owned, left_label, owners_of}, Packet.{advertises_label}};
 ghost use Rattle.edge_model.specs.State.{first_label};
 ghost use Rattle.pw_ends.specs.Changes.{changed, changed_each, changed_in, keeps_changed, keeps_meant};
-ghost use Rattle.pw_ends.specs.Kept.{AreApart, IsOwner, freed_one, segment_of};
-ghost use Rattle.pw_ends.specs.Owned.{without_owned_one};
+ghost use Rattle.pw_ends.specs.{Kept.{AreApart, IsOwner, freed_one, segment_of}, Owned.{without_owned_one}};
 ghost use Rattle.pw_ends.specs.Ends.{CanHold, HasKind, Holds, IsIdle, changed_at, changed_beside, end_in, end_there, owns_label, place_of, renewed_of, seen_ends};
 
 use crate::end_change::EndChange;
@@ -46,9 +41,7 @@ pub struct PwEnds {
 impl Model for PwEnds {
     ghost use Rattle.std.specs.Prelude.{map};
     ghost use Rattle.pw_signalling.specs.AnyEnd.{end_of};
-    ghost use Rattle.pw_ends.specs.Ends.{EndLists};
-    ghost use Rattle.pw_ends.specs.Kept.{AreMarked};
-    ghost use Rattle.pw_ends.specs.Marks.{is_marked};
+    ghost use Rattle.pw_ends.specs.{Ends.{EndLists}, Kept.{AreMarked}, Marks.{is_marked}};
 
     ghost Value = { EndLists };
 

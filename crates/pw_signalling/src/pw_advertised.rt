@@ -1,7 +1,6 @@
 //! The state of an end that advertises a label.
 ghost use Rattle.std.specs.Prelude.{◌≡◌, option_copied};
-ghost use Rattle.pw_signalling.specs.End.{advertised_end, withdrawing_end};
-ghost use Rattle.pw_signalling.specs.Rows.{telling, withdrawn};
+ghost use Rattle.pw_signalling.specs.{End.{advertised_end, withdrawing_end}, Rows.{telling, withdrawn}};
 
 use crate::{Binding, PwWithdrawing, Told};
 use net_base::Label;

@@ -1,7 +1,6 @@
 //! An end of any state.
 ghost use Rattle.std.specs.Prelude.{◌≡◌, option_copied};
-ghost use Rattle.pw_signalling.specs.Down.{down};
-ghost use Rattle.pw_signalling.specs.AnyEnd.{end_of};
+ghost use Rattle.pw_signalling.specs.{Down.{down}, AnyEnd.{end_of}};
 ghost use Rattle.pw_signalling.specs.Rows.{bound, group_stated, group_unbound, lost, released, stated, unbound, with_remote_part};
 
 use crate::binding::{is_named, is_of_group};

@@ -1,7 +1,6 @@
 //! The state of an end that advertises no label.
 ghost use Rattle.std.specs.Prelude.{◌≡◌, option_copied};
-ghost use Rattle.pw_signalling.specs.End.{advertised_end, fresh, idle_end};
-ghost use Rattle.pw_signalling.specs.Rows.{advertised, renewed};
+ghost use Rattle.pw_signalling.specs.{End.{advertised_end, fresh, idle_end}, Rows.{advertised, renewed}};
 
 use crate::{Binding, PwAdvertised, Told};
 use net_base::Label;

@@ -1,6 +1,5 @@
 //! What a switching point accepts of a peer.
-ghost use Rattle.std.specs.Prelude.{◌≡◌, ◌<◌, true, length};
-ghost use Rattle.std.specs.List.{list_any};
+ghost use Rattle.std.specs.{Prelude.{◌≡◌, ◌<◌, true, length}, List.{list_any}};
 ghost use Rattle.pw_stitch.specs.Accepting.{accepts, is_held_at, is_point_at};
 
 use net_base::Addr;

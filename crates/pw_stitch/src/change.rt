@@ -1,6 +1,5 @@
 //! Contents that are compared.
-ghost use Rattle.std.specs.Prelude.{◌≡◌, ◌↔◌, true};
-ghost use Rattle.std.specs.Cmp.Lexicographic.{pointwise};
+ghost use Rattle.std.specs.{Prelude.{◌≡◌, ◌↔◌, true}, Cmp.Lexicographic.{pointwise}};
 ghost use Rattle.pw_stitch.specs.Change.{are_same_three, has_same_params, is_same_at, is_same_but_status, is_same_point, without_status};
 
 use pw_signalling::Told;

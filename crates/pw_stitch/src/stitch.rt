@@ -1,10 +1,8 @@
 //! A switching point of one pseudowire.
 ghost use Rattle.std.specs.Prelude.{◌≡◌, ◌≤◌, ◌<◌, ◌+◌, ◌↔◌, true, length, None, Some, Err, IfOk, IfSome, IsSome, option_copied};
 ghost use Rattle.pw_signalling.specs.AnyEnd.{end_of};
-ghost use Rattle.pw_stitch.specs.declared.swap_drop.SwapDrop.TheVariants.{NoBinding, Expired};
-ghost use Rattle.pw_stitch.specs.Passing.{own_point, passed_status, wanted};
-ghost use Rattle.pw_stitch.specs.Side.{opposite};
-ghost use Rattle.pw_stitch.specs.Stitch.{end_on, held_across, unstitched, with_end_on};
+ghost use Rattle.pw_stitch.specs.{declared.swap_drop.SwapDrop.TheVariants.{NoBinding, Expired}, Passing.{own_point, passed_status, wanted}};
+ghost use Rattle.pw_stitch.specs.{Side.{opposite}, Stitch.{end_on, held_across, unstitched, with_end_on}};
 ghost use Rattle.pw_stitch.specs.Swap.{IsOfOneSide, label_onward, side_taking, swapped, takes_label};
 
 use crate::passing::{passed_status, wanted};

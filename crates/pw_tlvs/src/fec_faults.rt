@@ -1,8 +1,6 @@
 //! The first fault of the value of a FEC TLV.
 ghost use Rattle.std.specs.Prelude.{◌≡◌, ◌≤◌, ◌↔◌, length, Some, IfSome, IfNone};
-ghost use Rattle.pw_tlvs.specs.declared.field_fault.FieldFault.{FieldFault as FaultOf};
-ghost use Rattle.pw_tlvs.specs.Faults.{IsFirstIn, IsInside};
-ghost use Rattle.pw_tlvs.specs.Fec.{IsFecFault};
+ghost use Rattle.pw_tlvs.specs.{declared.field_fault.FieldFault.{FieldFault as FaultOf}, Faults.{IsFirstIn, IsInside}, Fec.{IsFecFault}};
 
 use crate::FieldFault;
 use crate::fec_reading::foreign_of;

@@ -1,11 +1,8 @@
 //! Reading the value of a FEC TLV.
 ghost use Rattle.std.specs.Prelude.{◌≡◌, ◌≤◌, ◌<◌, ◌+◌, ◌⊎◌, ◌↔◌, ℕ, length, drop, Ok, Err, Some, None, IfOk, IfErr};
-ghost use Rattle.pw_tlvs.specs.declared.registry.Registry.TheVariants.{InterfaceParameter};
-ghost use Rattle.pw_tlvs.specs.declared.fec_value.FecValue.{FecValue};
-ghost use Rattle.pw_tlvs.specs.declared.fec_value.FecValue.TheVariants.{Foreign};
-ghost use Rattle.pw_tlvs.specs.declared.field_fault.FieldFault.{FieldFault};
-ghost use Rattle.pw_tlvs.specs.Faults.{IsFirstIn, IsInside};
-ghost use Rattle.pw_tlvs.specs.SubTlvs.{IsNamed};
+ghost use Rattle.pw_tlvs.specs.{declared.registry.Registry.TheVariants.{InterfaceParameter}, declared.fec_value.FecValue.{FecValue}};
+ghost use Rattle.pw_tlvs.specs.{declared.fec_value.FecValue.TheVariants.{Foreign}, declared.field_fault.FieldFault.{FieldFault}};
+ghost use Rattle.pw_tlvs.specs.{Faults.{IsFirstIn, IsInside}, SubTlvs.{IsNamed}};
 ghost use Rattle.pw_tlvs.specs.Fec.{IsFecValue, IsFecFault, IsPwFec, IsPwid, IsInformation, IsTooShort, information_length};
 
 use crate::parameters::read_parameters;

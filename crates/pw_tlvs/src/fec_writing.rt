@@ -1,9 +1,7 @@
 //! Writing the value of a FEC TLV.
-ghost use Rattle.std.specs.Prelude.{◌≡◌, ◌≤◌, ◌+◌, ◌++◌, ◌∷◌, ℕ, true, length, take, drop, Option, option_map};
-ghost use Rattle.std.specs.List.{flat_map};
+ghost use Rattle.std.specs.{Prelude.{◌≡◌, ◌≤◌, ◌+◌, ◌++◌, ◌∷◌, ℕ, true, length, take, drop, Option, option_map}, List.{flat_map}};
 ghost use Rattle.byteorder.specs.Endian.{big_bytes};
-ghost use Rattle.pw_tlvs.specs.declared.registry.Registry.TheVariants.{InterfaceParameter};
-ghost use Rattle.pw_tlvs.specs.SubTlvs.{spell};
+ghost use Rattle.pw_tlvs.specs.{declared.registry.Registry.TheVariants.{InterfaceParameter}, SubTlvs.{spell}};
 ghost use Rattle.pw_tlvs.specs.Written.{writable_fec, written_fec, written_parameters, information, control_and_kind, told};
 
 use crate::fec_reading::PWID;

@@ -1,9 +1,7 @@
 //! What interface parameters say, as far as they were read.
 ghost use Rattle.std.specs.Prelude.{◌≡◌, ◌++◌, ◌∷◌, [], List, None, IsSome};
 ghost use Rattle.pw_tlvs.specs.declared.registry.Registry.TheVariants.{InterfaceParameter};
-ghost use Rattle.pw_tlvs.specs.SubTlvs.{SubTlv, IsGood, Stood, sub_tlv_row, values};
-ghost use Rattle.pw_tlvs.specs.Fec.{text_of};
-ghost use Rattle.pw_tlvs.specs.Found.{FoundSays};
+ghost use Rattle.pw_tlvs.specs.{SubTlvs.{SubTlv, IsGood, Stood, sub_tlv_row, values}, Fec.{text_of}, Found.{FoundSays}};
 
 use crate::IfParams;
 use byteorder::{BigEndian, ByteOrder};

@@ -1,18 +1,11 @@
 //! Laws of the layouts.
-ghost use Rattle.std.specs.Prelude.{◌≡◌, ◌<◌, ◌^◌, ℕ, List, true, length, take};
-ghost use Rattle.std.specs.List.{AllByRecursion};
+ghost use Rattle.std.specs.{Prelude.{◌≡◌, ◌<◌, ◌^◌, ℕ, List, true, length, take}, List.{AllByRecursion}};
 ghost use Rattle.net_values.specs.declared.mac.Mac.{Mac};
-ghost use Rattle.pw_tlvs.specs.declared.fec_value.FecValue.{FecValue};
-ghost use Rattle.pw_tlvs.specs.declared.fec_value.FecValue.TheVariants.{Pw, Foreign};
-ghost use Rattle.pw_tlvs.specs.declared.field_fault.FieldFault.{FieldFault};
-ghost use Rattle.pw_tlvs.specs.declared.pw_fec.PwFec.{PwFec};
-ghost use Rattle.pw_tlvs.specs.declared.pw_status.PwStatus.{PwStatus};
-ghost use Rattle.pw_tlvs.specs.declared.point.Point.{Point};
-ghost use Rattle.pw_tlvs.specs.Faults.{IsFirstIn};
-ghost use Rattle.pw_tlvs.specs.Fec.{IsFecValue, IsFecFault, IsFollowed};
-ghost use Rattle.pw_tlvs.specs.Macs.{AreMacs, IsMacsFault, mac_octets};
-ghost use Rattle.pw_tlvs.specs.Point.{IsPoint, IsPointFault};
-ghost use Rattle.pw_tlvs.specs.Status.{IsPwStatus, IsStatusFault, written_status};
+ghost use Rattle.pw_tlvs.specs.{declared.fec_value.FecValue.{FecValue}, declared.fec_value.FecValue.TheVariants.{Pw, Foreign}};
+ghost use Rattle.pw_tlvs.specs.{declared.field_fault.FieldFault.{FieldFault}, declared.pw_fec.PwFec.{PwFec}};
+ghost use Rattle.pw_tlvs.specs.{declared.pw_status.PwStatus.{PwStatus}, declared.point.Point.{Point}, Faults.{IsFirstIn}};
+ghost use Rattle.pw_tlvs.specs.{Fec.{IsFecValue, IsFecFault, IsFollowed}, Macs.{AreMacs, IsMacsFault, mac_octets}};
+ghost use Rattle.pw_tlvs.specs.{Point.{IsPoint, IsPointFault}, Status.{IsPwStatus, IsStatusFault, written_status}};
 ghost use Rattle.pw_tlvs.specs.Written.{IsFecInRange, IsPointInRange, writable_fec, written_fec, written_point};
 
 /// What is written is a value, and the one that was written; so the read call answers it. It holds of all

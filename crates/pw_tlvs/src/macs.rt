@@ -2,8 +2,7 @@
 ghost use Rattle.std.specs.Prelude.{◌≡◌, ◌≤◌, ◌*◌, ◌%◌, ◌+◌, ◌++◌, ◌↔◌, ◌⊎◌, length, take, drop, List, Ok, Err, IfOk};
 ghost use Rattle.net_values.specs.declared.mac.Mac.{Mac};
 ghost use Rattle.pw_tlvs.specs.declared.field_fault.FieldFault.{FieldFault};
-ghost use Rattle.pw_tlvs.specs.declared.macs_fault.MacsFault.TheVariants.{Field as FieldOf, NoMemory as OutOfMemory};
-ghost use Rattle.pw_tlvs.specs.Faults.{IsFirstIn};
+ghost use Rattle.pw_tlvs.specs.{declared.macs_fault.MacsFault.TheVariants.{Field as FieldOf, NoMemory as OutOfMemory}, Faults.{IsFirstIn}};
 ghost use Rattle.pw_tlvs.specs.Macs.{AreMacs, IsMacsFault, mac_octets};
 
 use crate::{FieldFault, MacsFault};

@@ -1,7 +1,6 @@
 //! Which interface parameters were met.
 ghost use Rattle.std.specs.Prelude.{◌≡◌, ◌++◌, ◌∷◌, [], ℕ, List, IsSome};
-ghost use Rattle.pw_tlvs.specs.declared.registry.Registry.TheVariants.{InterfaceParameter};
-ghost use Rattle.pw_tlvs.specs.SubTlvs.{SubTlv, Stood, sub_tlv_row, values};
+ghost use Rattle.pw_tlvs.specs.{declared.registry.Registry.TheVariants.{InterfaceParameter}, SubTlvs.{SubTlv, Stood, sub_tlv_row, values}};
 ghost use Rattle.pw_tlvs.specs.Found.{MetSays};
 
 /// Which of the known interface parameters stand before a place.

@@ -1,9 +1,7 @@
 //! Reading interface parameters.
 ghost use Rattle.std.specs.Prelude.{◌≤◌, length, IfOk, IfErr, IfSome, IfNone};
 ghost use Rattle.pw_tlvs.specs.declared.field_fault.FieldFault.{FieldFault as FaultOf};
-ghost use Rattle.pw_tlvs.specs.declared.registry.Registry.TheVariants.{InterfaceParameter};
-ghost use Rattle.pw_tlvs.specs.Faults.{IsFirstIn};
-ghost use Rattle.pw_tlvs.specs.SubTlvs.{IsNamed};
+ghost use Rattle.pw_tlvs.specs.{declared.registry.Registry.TheVariants.{InterfaceParameter}, Faults.{IsFirstIn}, SubTlvs.{IsNamed}};
 ghost use Rattle.pw_tlvs.specs.Fec.{AreParameters};
 
 use crate::found_params::FoundParams;

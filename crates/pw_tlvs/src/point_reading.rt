@@ -1,11 +1,8 @@
 //! Reading switching points.
 ghost use Rattle.std.specs.Prelude.{◌≡◌, ◌≤◌, ◌++◌, ◌∷◌, ◌↔◌, [], List, length, Ok, Err, IfOk, IfErr, IsSome};
-ghost use Rattle.pw_tlvs.specs.declared.registry.Registry.TheVariants.{SwitchingPointPart};
-ghost use Rattle.pw_tlvs.specs.declared.point.Point.{Point};
-ghost use Rattle.pw_tlvs.specs.declared.field_fault.FieldFault.{FieldFault};
-ghost use Rattle.pw_tlvs.specs.Faults.{IsFirstIn, IsInside};
-ghost use Rattle.pw_tlvs.specs.SubTlvs.{SubTlv, IsGood, Stood, sub_tlv_row, values};
-ghost use Rattle.pw_tlvs.specs.Point.{IsPoint, IsPointFault, address_of};
+ghost use Rattle.pw_tlvs.specs.{declared.registry.Registry.TheVariants.{SwitchingPointPart}, declared.point.Point.{Point}};
+ghost use Rattle.pw_tlvs.specs.{declared.field_fault.FieldFault.{FieldFault}, Faults.{IsFirstIn, IsInside}};
+ghost use Rattle.pw_tlvs.specs.{SubTlvs.{SubTlv, IsGood, Stood, sub_tlv_row, values}, Point.{IsPoint, IsPointFault, address_of}};
 ghost use Rattle.pw_tlvs.specs.Found.{PointSays};
 
 use crate::registry::Registry;

@@ -1,9 +1,7 @@
 //! Writing switching points.
-ghost use Rattle.std.specs.Prelude.{◌≡◌, ◌≤◌, ◌++◌, length, drop, option_map, ℕ};
-ghost use Rattle.std.specs.List.{flat_map};
+ghost use Rattle.std.specs.{Prelude.{◌≡◌, ◌≤◌, ◌++◌, length, drop, option_map, ℕ}, List.{flat_map}};
 ghost use Rattle.byteorder.specs.Endian.{big_bytes};
-ghost use Rattle.pw_tlvs.specs.declared.registry.Registry.TheVariants.{SwitchingPointPart};
-ghost use Rattle.pw_tlvs.specs.SubTlvs.{spell};
+ghost use Rattle.pw_tlvs.specs.{declared.registry.Registry.TheVariants.{SwitchingPointPart}, SubTlvs.{spell}};
 ghost use Rattle.pw_tlvs.specs.Written.{written_point, told};
 
 use crate::Point;

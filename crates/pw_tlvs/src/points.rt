@@ -14,8 +14,7 @@ pub struct Points {
 
 impl Model for Points {
     ghost use Rattle.std.specs.Prelude.{List};
-    ghost use Rattle.pw_tlvs.specs.declared.point.Point.{Point};
-    ghost use Rattle.pw_tlvs.specs.Points.{points_of, held_points, held_points_again};
+    ghost use Rattle.pw_tlvs.specs.{declared.point.Point.{Point}, Points.{points_of, held_points, held_points_again}};
 
     ghost Value = { List Point };
 

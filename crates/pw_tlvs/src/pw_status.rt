@@ -1,9 +1,7 @@
 //! The status of a pseudowire.
 ghost use Rattle.std.specs.Prelude.{◌≡◌, ◌≤◌, ◌++◌, ◌↔◌, length, drop, Ok, Err, IfErr};
-ghost use Rattle.pw_tlvs.specs.declared.pw_status.PwStatus.{PwStatus};
-ghost use Rattle.pw_tlvs.specs.declared.field_fault.FieldFault.{FieldFault};
-ghost use Rattle.pw_tlvs.specs.Faults.{IsFirstIn, IsInside};
-ghost use Rattle.pw_tlvs.specs.Status.{IsPwStatus, IsStatusFault, written_status};
+ghost use Rattle.pw_tlvs.specs.{declared.pw_status.PwStatus.{PwStatus}, declared.field_fault.FieldFault.{FieldFault}};
+ghost use Rattle.pw_tlvs.specs.{Faults.{IsFirstIn, IsInside}, Status.{IsPwStatus, IsStatusFault, written_status}};
 
 use crate::FieldFault;
 use byteorder::{BigEndian, ByteOrder};

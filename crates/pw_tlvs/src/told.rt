@@ -1,9 +1,7 @@
 //! Writing what is told.
-ghost use Rattle.std.specs.Prelude.{◌≡◌, ◌≤◌, ◌+◌, ◌++◌, length, take, drop, Option, option_map};
-ghost use Rattle.std.specs.List.{flat_map};
+ghost use Rattle.std.specs.{Prelude.{◌≡◌, ◌≤◌, ◌+◌, ◌++◌, length, take, drop, Option, option_map}, List.{flat_map}};
 ghost use Rattle.byteorder.specs.Endian.{big_bytes};
-ghost use Rattle.pw_tlvs.specs.declared.registry.Registry.TheVariants.{InterfaceParameter, SwitchingPointPart};
-ghost use Rattle.pw_tlvs.specs.SubTlvs.{spell};
+ghost use Rattle.pw_tlvs.specs.{declared.registry.Registry.TheVariants.{InterfaceParameter, SwitchingPointPart}, SubTlvs.{spell}};
 ghost use Rattle.pw_tlvs.specs.Written.{told, description_value, pair_octets};
 
 use crate::octets::put_sub_tlv;

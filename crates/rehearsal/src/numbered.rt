@@ -1,6 +1,5 @@
 //! Names that are numbered.
-ghost use Rattle.std.specs.Prelude.{◌≡◌, ◌++◌, length, IfOk};
-ghost use Rattle.std.specs.Fmt.{decimal};
+ghost use Rattle.std.specs.{Prelude.{◌≡◌, ◌++◌, length, IfOk}, Fmt.{decimal}};
 ghost use Rattle.net_values.specs.Name.{IsName};
 
 use itoa::Buffer;

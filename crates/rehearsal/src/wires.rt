@@ -1,6 +1,5 @@
 //! The wires of a rehearsal.
-ghost use Rattle.std.specs.Prelude.{◌≡◌, ◌<◌, ◌≤◌, ◌+◌, ◌-◌, ◌*◌, ◌++◌, ◌∷◌, [], length, IfOk, OnOk};
-ghost use Rattle.std.specs.Fmt.{decimal};
+ghost use Rattle.std.specs.{Prelude.{◌≡◌, ◌<◌, ◌≤◌, ◌+◌, ◌-◌, ◌*◌, ◌++◌, ◌∷◌, [], length, IfOk, OnOk}, Fmt.{decimal}};
 ghost use Rattle.net_values.specs.Name.{IsName};
 ghost use Rattle.rehearsal.specs.Rows.{offer, rehearsed_wire, mesh_wire, mesh_beside, mesh_among, first_spoke, second_spoke, wires};
 

@@ -2,11 +2,7 @@
 ghost use Rattle.std.specs.Prelude.{◌≡◌, map, IfOk};
 ghost use Rattle.command_text.specs.Planned.{names_of};
 ghost use Rattle.report_reading.specs.Named.{IsEntryNamed};
-ghost use Rattle.report_entries.specs.Answers.{Finds};
-ghost use Rattle.report_entries.specs.Cut.{line_words};
-ghost use Rattle.report_entries.specs.Entries.{line_entry};
-ghost use Rattle.report_entries.specs.Reading.{Reads};
-ghost use Rattle.report_entries.specs.Report.{found_on_line};
+ghost use Rattle.report_entries.specs.{Answers.{Finds}, Cut.{line_words}, Entries.{line_entry}, Reading.{Reads}, Report.{found_on_line}};
 
 use crate::entry::words_entry;
 use crate::{ReportFault, Unread};

@@ -1,6 +1,5 @@
 //! The last line that counts ask for, to be compared.
-ghost use Rattle.std.specs.Prelude.{◌≡◌, ◌++◌, ◌∷◌, [], codes, map, IfOk, OnOk};
-ghost use Rattle.std.specs.Fmt.{decimal};
+ghost use Rattle.std.specs.{Prelude.{◌≡◌, ◌++◌, ◌∷◌, [], codes, map, IfOk, OnOk}, Fmt.{decimal}};
 ghost use Rattle.text_lines.specs.Lines.{word_octets};
 ghost use Rattle.report_entries.specs.Report.{tally_line};
 

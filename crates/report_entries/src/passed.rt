@@ -1,7 +1,6 @@
 //! What a line tells of a frame on its way.
 ghost use Rattle.std.specs.Prelude.{map};
-ghost use Rattle.report_entries.specs.Entries.{carried_in, passed_in};
-ghost use Rattle.report_entries.specs.Reading.{Reads};
+ghost use Rattle.report_entries.specs.{Entries.{carried_in, passed_in}, Reading.{Reads}};
 
 use crate::Unread;
 use crate::values::{arrival, number, octets, wire};

@@ -2,8 +2,7 @@
 ghost use Rattle.std.specs.Prelude.{◌≡◌, ◌<◌, ◌≤◌, ◌+◌, ◌^◌, [], length, IfOk, IfSome, OnOk};
 ghost use Rattle.command_text.specs.Planned.{names_of};
 ghost use Rattle.report_reading.specs.Named.{IsEntryNamed};
-ghost use Rattle.report_entries.specs.Answers.{Begins, ReportGoesOn};
-ghost use Rattle.report_entries.specs.Counted.{AreTallied};
+ghost use Rattle.report_entries.specs.{Answers.{Begins, ReportGoesOn}, Counted.{AreTallied}};
 
 use crate::ReportFault;
 use crate::cut::{cut_at, words_of};
@@ -26,8 +25,7 @@ pub struct ReportReader<'a> {
 }
 
 impl<'a> Model for ReportReader<'a> {
-    ghost use Rattle.report_entries.specs.ReadSoFar.{ReadSoFar};
-    ghost use Rattle.report_entries.specs.Counted.{AreTallied};
+    ghost use Rattle.report_entries.specs.{ReadSoFar.{ReadSoFar}, Counted.{AreTallied}};
 
     ghost Value = { ReadSoFar };
 

@@ -1,7 +1,5 @@
 //! What single words say.
-ghost use Rattle.std.specs.Prelude.{◌≡◌, ◌≤◌, IfOk};
-ghost use Rattle.std.specs.List.{list_all};
-ghost use Rattle.std.specs.Str.{bytes_eq};
+ghost use Rattle.std.specs.{Prelude.{◌≡◌, ◌≤◌, IfOk}, List.{list_all}, Str.{bytes_eq}};
 ghost use Rattle.command_text.specs.Words.{decimal_from};
 ghost use Rattle.report_entries.specs.Reading.{Reads, arrival_in, cause_in, cause_rest_in, circuit_of_word, edge_of_word, ended_in, is_small, number_in, digits_told, sequence_in, state_in, switch_in, wire_end_in, wire_of_word};
 

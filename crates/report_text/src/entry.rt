@@ -1,10 +1,7 @@
 //! The line of an entry.
-ghost use Rattle.std.specs.Prelude.{◌≡◌, ◌∷◌, [], codes, map};
-ghost use Rattle.std.specs.Fmt.{decimal};
-ghost use Rattle.report_text.specs.Report.{entry_line};
-ghost use Rattle.report_text.specs.Words.{cause_name, edge_name, state_name, wire_end_name, wire_name};
-ghost use Rattle.text_lines.specs.Lines.{line_of, word_octets};
-ghost use Rattle.text_lines.specs.Written.{PutsOn};
+ghost use Rattle.std.specs.{Prelude.{◌≡◌, ◌∷◌, [], codes, map}, Fmt.{decimal}};
+ghost use Rattle.report_text.specs.{Report.{entry_line}, Words.{cause_name, edge_name, state_name, wire_end_name, wire_name}};
+ghost use Rattle.text_lines.specs.{Lines.{line_of, word_octets}, Written.{PutsOn}};
 ghost use Rattle.text_pieces.specs.Pieces.{hex};
 
 use crate::event::put_event;

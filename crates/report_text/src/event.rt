@@ -1,9 +1,7 @@
 //! The line of an event that was done.
-ghost use Rattle.std.specs.Prelude.{◌≡◌, ◌∷◌, [], codes};
-ghost use Rattle.std.specs.Fmt.{decimal};
+ghost use Rattle.std.specs.{Prelude.{◌≡◌, ◌∷◌, [], codes}, Fmt.{decimal}};
 ghost use Rattle.report_text.specs.Words.{event_words};
-ghost use Rattle.text_lines.specs.Lines.{line_of};
-ghost use Rattle.text_lines.specs.Written.{PutsOn};
+ghost use Rattle.text_lines.specs.{Lines.{line_of}, Written.{PutsOn}};
 ghost use Rattle.text_pieces.specs.Pieces.{hex};
 
 use crate::event_words::words_of_event;

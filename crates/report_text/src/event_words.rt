@@ -1,8 +1,6 @@
 //! The words of an event, as a scenario writes it and a report tells it.
-ghost use Rattle.std.specs.Prelude.{◌≡◌, ◌∷◌, [], codes, map};
-ghost use Rattle.std.specs.Fmt.{decimal};
-ghost use Rattle.report_text.specs.Words.{circuit_name, edge_name, event_words, switch_name, wire_name};
-ghost use Rattle.report_text.specs.EventWords.{event_words_told};
+ghost use Rattle.std.specs.{Prelude.{◌≡◌, ◌∷◌, [], codes, map}, Fmt.{decimal}};
+ghost use Rattle.report_text.specs.{Words.{circuit_name, edge_name, event_words, switch_name, wire_name}, EventWords.{event_words_told}};
 ghost use Rattle.text_lines.specs.Lines.{word_octets};
 
 use crate::names::{circuit_word, edge_word, switch_text, wire_word};

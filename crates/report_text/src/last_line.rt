@@ -1,9 +1,7 @@
 //! The last line of a report.
-ghost use Rattle.std.specs.Prelude.{◌≡◌, ◌<◌, ◌^◌, ◌++◌, ◌∷◌, [], codes, count_by, map};
-ghost use Rattle.std.specs.Fmt.{decimal};
+ghost use Rattle.std.specs.{Prelude.{◌≡◌, ◌<◌, ◌^◌, ◌++◌, ◌∷◌, [], codes, count_by, map}, Fmt.{decimal}};
 ghost use Rattle.report_text.specs.Report.{is_counted, counted_more, last_words};
-ghost use Rattle.text_lines.specs.Lines.{line_of, word_octets};
-ghost use Rattle.text_lines.specs.Written.{PutsOn};
+ghost use Rattle.text_lines.specs.{Lines.{line_of, word_octets}, Written.{PutsOn}};
 
 use crate::ending::Ending;
 use net_base::{Entry, Failed, Sink};

@@ -1,11 +1,7 @@
 //! The top of a document: its version and its arrays.
-ghost use Rattle.std.specs.Prelude.{◌≡◌, ◌≤◌, [], true, codes, length, IfNone, IfOk, IfSome};
-ghost use Rattle.std.specs.List.{list_all};
-ghost use Rattle.toml.specs.Data.{no_items, as_array};
-ghost use Rattle.toml.specs.View.{view, items_view, table_view};
-ghost use Rattle.command_text.specs.Events.{most_events};
-ghost use Rattle.command_text.specs.Places.{place_of_key, top_row};
-ghost use Rattle.command_text.specs.Reading.{MapsTo};
+ghost use Rattle.std.specs.{Prelude.{◌≡◌, ◌≤◌, [], true, codes, length, IfNone, IfOk, IfSome}, List.{list_all}};
+ghost use Rattle.toml.specs.{Data.{no_items, as_array}, View.{view, items_view, table_view}};
+ghost use Rattle.command_text.specs.{Events.{most_events}, Places.{place_of_key, top_row}, Reading.{MapsTo}};
 ghost use Rattle.scenario_text.specs.Values.{is_string, an_array, all_items, needed, defaulted};
 ghost use Rattle.scenario_text.specs.Top.{is_table, a_version, few, few_in, groups_at, arrays_at, arrays_in};
 ghost use Rattle.scenario_text.specs.Arrays.{arrays_of, HasLimits};

@@ -1,8 +1,7 @@
 //! The circuits of a plan.
 ghost use Rattle.std.specs.Prelude.{◌≡◌, ◌≤◌, length, IfOk};
 ghost use Rattle.command_text.specs.Reading.{Gives};
-ghost use Rattle.scenario_text.specs.References.{circuit_in, circuit_plans};
-ghost use Rattle.scenario_text.specs.Top.{most_circuits};
+ghost use Rattle.scenario_text.specs.{References.{circuit_in, circuit_plans}, Top.{most_circuits}};
 
 use crate::circuit_row::CircuitRow;
 use crate::named::named_place;

@@ -1,14 +1,9 @@
 //! Whole documents.
-ghost use Rattle.std.specs.Prelude.{◌≡◌, ◌≤◌, length, IfOk};
-ghost use Rattle.std.specs.List.{All};
+ghost use Rattle.std.specs.{Prelude.{◌≡◌, ◌≤◌, length, IfOk}, List.{All}};
 ghost use Rattle.net_base.specs.plan.Accepted.{IsWithinLimits, IsChecked};
-ghost use Rattle.toml.specs.Parse.{parse_document};
-ghost use Rattle.toml.specs.View.{items_view, table_view};
-ghost use Rattle.command_text.specs.Events.{commands_in, most_events};
-ghost use Rattle.command_text.specs.Reading.{Gives};
-ghost use Rattle.command_text.specs.Planned.{names_of, IsPlanned};
-ghost use Rattle.scenario_text.specs.Arrays.{arrays_of, HasLimits};
-ghost use Rattle.scenario_text.specs.Document.{plan_in, scenario_in, scenario_or, document};
+ghost use Rattle.toml.specs.{Parse.{parse_document}, View.{items_view, table_view}};
+ghost use Rattle.command_text.specs.{Events.{commands_in, most_events}, Reading.{Gives}, Planned.{names_of, IsPlanned}};
+ghost use Rattle.scenario_text.specs.{Arrays.{arrays_of, HasLimits}, Document.{plan_in, scenario_in, scenario_or, document}};
 
 use crate::Scenario;
 use crate::arrays::{Arrays, document_arrays, take_events};

@@ -1,8 +1,7 @@
 //! The names of groups.
 ghost use Rattle.std.specs.Prelude.{◌≡◌, ◌≤◌, true, length};
 ghost use Rattle.command_text.specs.Reading.{MapsTo};
-ghost use Rattle.scenario_text.specs.References.{group_names, groups_differ};
-ghost use Rattle.scenario_text.specs.Top.{most_groups};
+ghost use Rattle.scenario_text.specs.{References.{group_names, groups_differ}, Top.{most_groups}};
 
 use crate::group_rows::GroupRows;
 use command_text::{RowPlace, ScenarioFault};

@@ -1,7 +1,5 @@
 //! The keys that a table of the document may have.
-ghost use Rattle.std.specs.Prelude.{◌≡◌, not, true, option_map, string_bytes, string_cmp};
-ghost use Rattle.std.specs.List.{find};
-ghost use Rattle.std.specs.List.Sorted.{IsStrictlySortedBy};
+ghost use Rattle.std.specs.{Prelude.{◌≡◌, not, true, option_map, string_bytes, string_cmp}, List.{find}, List.Sorted.{IsStrictlySortedBy}};
 ghost use Rattle.std.specs.Map.{keys_of};
 ghost use Rattle.toml.specs.View.{table_view};
 ghost use Rattle.command_text.specs.Reading.{MapsTo};

@@ -1,9 +1,7 @@
 //! Members of a table.
 ghost use Rattle.std.specs.Prelude.{◌≡◌, ◌≤◌, None, option_map, IfOk, IfSome};
-ghost use Rattle.toml.specs.Data.{get_member};
-ghost use Rattle.toml.specs.View.{view, table_view};
-ghost use Rattle.command_text.specs.Places.{place_of_key};
-ghost use Rattle.command_text.specs.Reading.{Gives, MapsTo, found};
+ghost use Rattle.toml.specs.{Data.{get_member}, View.{view, table_view}};
+ghost use Rattle.command_text.specs.{Places.{place_of_key}, Reading.{Gives, MapsTo, found}};
 ghost use Rattle.scenario_text.specs.Values.{a_name, an_address, a_number, a_boolean, a_class, a_mode, a_description, a_path, needed, defaulted, optional};
 ghost use Rattle.scenario_text.specs.Rows.{a_group, a_table};
 

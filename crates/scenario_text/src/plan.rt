@@ -1,9 +1,7 @@
 //! The plan of a document.
 ghost use Rattle.std.specs.Prelude.{◌≡◌, ◌≤◌, length, IfOk};
-ghost use Rattle.net_base.specs.plan.Accepted.{IsWithinLimits, IsChecked, plan_names};
-ghost use Rattle.net_base.specs.plan.NameFaults.{edge_names, service_names};
-ghost use Rattle.command_text.specs.Names.{are_distinct};
-ghost use Rattle.command_text.specs.Reading.{Gives};
+ghost use Rattle.net_base.specs.{plan.Accepted.{IsWithinLimits, IsChecked, plan_names}, plan.NameFaults.{edge_names, service_names}};
+ghost use Rattle.command_text.specs.{Names.{are_distinct}, Reading.{Gives}};
 ghost use Rattle.scenario_text.specs.References.{group_names, passed, sound, sound_with, placed_rows, plan_of};
 ghost use Rattle.scenario_text.specs.Top.{most_edges, most_services, most_groups, most_circuits, most_wires};
 

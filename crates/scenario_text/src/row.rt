@@ -19,8 +19,7 @@ use std::alloc::Global;
 pub trait Row: Sized + Drop {
     ghost use Rattle.std.specs.Prelude.{Result};
     ghost use Rattle.toml.specs.Data.{Members};
-    ghost use Rattle.command_text.specs.declared.row_place.RowPlace.{RowPlace};
-    ghost use Rattle.command_text.specs.declared.scenario_fault.ScenarioFault.{ScenarioFault};
+    ghost use Rattle.command_text.specs.{declared.row_place.RowPlace.{RowPlace}, declared.scenario_fault.ScenarioFault.{ScenarioFault}};
     ghost use Rattle.scenario_text.specs.declared.document_version.DocumentVersion.{DocumentVersion};
 
     /// What the members of a row say.

@@ -2,8 +2,7 @@
 ghost use Rattle.std.specs.Prelude.{◌≡◌, ◌≤◌, length, IfOk};
 ghost use Rattle.toml.specs.View.{view, items_view};
 ghost use Rattle.command_text.specs.Reading.{Gives};
-ghost use Rattle.scenario_text.specs.Rows.{row_in, rows_in};
-ghost use Rattle.scenario_text.specs.Top.{most_groups};
+ghost use Rattle.scenario_text.specs.{Rows.{row_in, rows_in}, Top.{most_groups}};
 
 use crate::document_version::DocumentVersion;
 use crate::row::Row;

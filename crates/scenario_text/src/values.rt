@@ -1,9 +1,7 @@
 //! The kinds of values that stand at keys.
-ghost use Rattle.std.specs.Prelude.{◌≡◌, ◌≤◌, IfOk};
-ghost use Rattle.std.specs.List.{list_all};
+ghost use Rattle.std.specs.{Prelude.{◌≡◌, ◌≤◌, IfOk}, List.{list_all}};
 ghost use Rattle.toml.specs.View.{view, items_view};
-ghost use Rattle.command_text.specs.Places.{place_of_key};
-ghost use Rattle.command_text.specs.Reading.{Gives, MapsTo};
+ghost use Rattle.command_text.specs.{Places.{place_of_key}, Reading.{Gives, MapsTo}};
 ghost use Rattle.scenario_text.specs.Values.{meant, a_text, a_name, quad_of, an_address, a_number, a_boolean, a_class, a_mode, a_description, is_string, an_array, names_in, a_path, all_items};
 
 use command_text::{RowPlace, ScenarioFault, is_same};

@@ -1,9 +1,7 @@
 //! One command.
 ghost use Rattle.std.specs.Prelude.{◌≡◌, IfOk};
-ghost use Rattle.net_base.specs.declared.plan.Plan.{Plan};
-ghost use Rattle.net_base.specs.plan.Accepted.{IsChecked};
-ghost use Rattle.command_text.specs.Events.{command_in};
-ghost use Rattle.command_text.specs.Planned.{names_of, IsPlanned};
+ghost use Rattle.net_base.specs.{declared.plan.Plan.{Plan}, plan.Accepted.{IsChecked}};
+ghost use Rattle.command_text.specs.{Events.{command_in}, Planned.{names_of, IsPlanned}};
 ghost use Rattle.scenario_text.specs.WordReading.{ReadsWords};
 
 use crate::word_fault::WordFault;

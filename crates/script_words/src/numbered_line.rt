@@ -1,7 +1,6 @@
 //! Lines of a script by their words.
 ghost use Rattle.std.specs.Prelude.{◌≡◌, ◌<◌, ◌≤◌, ◌+◌, ◌-◌, ◌^◌, length, IfOk};
-ghost use Rattle.command_text.specs.Names.{place_in};
-ghost use Rattle.command_text.specs.Words.{decimal_from};
+ghost use Rattle.command_text.specs.{Names.{place_in}, Words.{decimal_from}};
 ghost use Rattle.script_words.specs.Reading.{ends_behind, first_of, said_at};
 
 use command_text::decimal::decimal;

@@ -1,13 +1,10 @@
 //! Which services are seen calm.
-ghost use Rattle.std.specs.Prelude.{◌≡◌, ◌==◌, ◌&&◌, ◌<◌, ◌≤◌, [], length};
-ghost use Rattle.std.specs.List.{list_any};
-ghost use Rattle.net_base.specs.plan.Accepted.{IsWithinLimits};
-ghost use Rattle.net_base.specs.plan.Paths.{joins};
+ghost use Rattle.std.specs.{Prelude.{◌≡◌, ◌==◌, ◌&&◌, ◌<◌, ◌≤◌, [], length}, List.{list_any}};
+ghost use Rattle.net_base.specs.{plan.Accepted.{IsWithinLimits}, plan.Paths.{joins}};
 ghost use Rattle.net_base.specs.plan.Roles.{all_below, is_core_edge, is_spoke_edge, is_wire_of};
 ghost use Rattle.seen_network.specs.Calm.{has_seen_spokes, is_seen_calm, is_seen_drained, is_seen_full, is_seen_quiet, is_seen_up};
 ghost use Rattle.seen_network.specs.Seen.{Seen};
-ghost use Rattle.seen_state.specs.Calm.{has_one_spoke, is_seen_full_between, is_seen_quiet_between};
-ghost use Rattle.seen_state.specs.Sight.{ShowsSight, shown_with};
+ghost use Rattle.seen_state.specs.{Calm.{has_one_spoke, is_seen_full_between, is_seen_quiet_between}, Sight.{ShowsSight, shown_with}};
 
 use crate::sight::Sight;
 use hvpls_spokes::{Role, is_mesh_between, role, starts_spoke};

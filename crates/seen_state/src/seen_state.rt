@@ -1,12 +1,8 @@
 //! What entries have shown of a network.
 ghost use Rattle.std.specs.Prelude.{◌≡◌, ◌<◌, ◌≤◌, ◌+◌, ◌^◌, IfOk, OnOk};
 ghost use Rattle.net_base.specs.plan.Accepted.{IsWithinLimits};
-ghost use Rattle.seen_network.specs.Calm.{is_seen_calm};
-ghost use Rattle.seen_network.specs.Once.{has_seen, names_seen};
-ghost use Rattle.seen_network.specs.Seen.{Seen, happened, nothing_seen, told_by_itself};
-ghost use Rattle.seen_state.specs.Placed.{IsEventWithin, IsWithin};
-ghost use Rattle.seen_state.specs.SeenState.{Knows};
-ghost use Rattle.seen_state.specs.Sight.{sizes_of};
+ghost use Rattle.seen_network.specs.{Calm.{is_seen_calm}, Once.{has_seen, names_seen}, Seen.{Seen, happened, nothing_seen, told_by_itself}};
+ghost use Rattle.seen_state.specs.{Placed.{IsEventWithin, IsWithin}, SeenState.{Knows}, Sight.{sizes_of}};
 
 use crate::copies::Copies;
 use crate::sight::Sight;

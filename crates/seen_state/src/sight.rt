@@ -1,8 +1,7 @@
 //! What is seen of a network but for the packets under way.
 ghost use Rattle.std.specs.Prelude.{◌≡◌, ◌<◌, [], false, true, option_copied, replicate, unwrap_or, IfOk, OnOk};
 ghost use Rattle.seen_network.specs.Seen.{Seen, delivers, end_goes, happened, nothing_seen, said_towards, session_told, told_by_itself, with_on, with_standing, with_up, without_edge};
-ghost use Rattle.seen_state.specs.PeerEnd.{no_end};
-ghost use Rattle.seen_state.specs.Placed.{IsEventWithin, IsWithin};
+ghost use Rattle.seen_state.specs.{PeerEnd.{no_end}, Placed.{IsEventWithin, IsWithin}};
 ghost use Rattle.seen_state.specs.Sight.{ShowsSight, end_seen, shown_with, sizes_of, up_at};
 
 use crate::peer_end::PeerEnd;

@@ -1,7 +1,6 @@
 //! How a session of any state ends.
 ghost use Rattle.std.specs.Prelude.{◌≡◌, [], ◌∷◌, Some};
-ghost use Rattle.session_core.specs.Parameters.{refusal_reason};
-ghost use Rattle.session_core.specs.Reasons.{HasEnded};
+ghost use Rattle.session_core.specs.{Parameters.{refusal_reason}, Reasons.{HasEnded}};
 ghost use Rattle.session_core.specs.StatusCodes.{about, about_none, bad_ldp_identifier, data_of, keep_alive_timer_expired, shutdown};
 ghost use Rattle.session_core.specs.Table.{data_refusing, reason_in};
 

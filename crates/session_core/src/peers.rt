@@ -1,7 +1,6 @@
 //! The two ends of a session.
 ghost use Rattle.std.specs.Prelude.{◌≡◌};
-ghost use Rattle.session_core.specs.Parameters.{proposal};
-ghost use Rattle.session_core.specs.State.{is_active};
+ghost use Rattle.session_core.specs.{Parameters.{proposal}, State.{is_active}};
 
 use byteorder::{BigEndian, ByteOrder};
 use ldp_grammar::{LdpId, SessionParams};

@@ -1,7 +1,6 @@
 //! Why a proposal is refused.
 ghost use Rattle.std.specs.Prelude.{◌≡◌};
-ghost use Rattle.session_core.specs.Parameters.{refusal_reason};
-ghost use Rattle.session_core.specs.Table.{data_refusing};
+ghost use Rattle.session_core.specs.{Parameters.{refusal_reason}, Table.{data_refusing}};
 
 use crate::notice::{BAD_KEEP_ALIVE_TIME, BAD_PROTOCOL_VERSION, NO_HELLO};
 use net_base::Reason;

@@ -14,8 +14,7 @@ pub struct Replies {
 
 impl Model for Replies {
     ghost use Rattle.std.specs.Prelude.{List};
-    ghost use Rattle.session_core.specs.declared.reply.Reply.{Reply};
-    ghost use Rattle.session_core.specs.Replies.{replies_in, held_replies, held_replies_again};
+    ghost use Rattle.session_core.specs.{declared.reply.Reply.{Reply}, Replies.{replies_in, held_replies, held_replies_again}};
 
     ghost Value = { List Reply };
 

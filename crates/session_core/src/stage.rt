@@ -1,8 +1,6 @@
 //! The states of a session that stands, as types.
 ghost use Rattle.std.specs.Prelude.{◌≡◌};
-ghost use Rattle.session_core.specs.Phase.{Phase, is_agreed};
-ghost use Rattle.session_core.specs.Session.{view_of};
-ghost use Rattle.session_core.specs.State.{IsKept, Stands, in_phase};
+ghost use Rattle.session_core.specs.{Phase.{Phase, is_agreed}, Session.{view_of}, State.{IsKept, Stands, in_phase}};
 
 use crate::{Session, Standing};
 

@@ -1,8 +1,6 @@
 //! The choice of a spoke.
-ghost use Rattle.std.specs.Prelude.{◌≡◌, ◌||◌, ◌↔◌, ℕ, false, None, position};
-ghost use Rattle.std.specs.List.{list_any};
-ghost use Rattle.spoke_redundancy.specs.Choice.{chosen, is_usable_spoke};
-ghost use Rattle.spoke_redundancy.specs.Least.{IsLeast, is_least, is_less, is_usable_below};
+ghost use Rattle.std.specs.{Prelude.{◌≡◌, ◌||◌, ◌↔◌, ℕ, false, None, position}, List.{list_any}};
+ghost use Rattle.spoke_redundancy.specs.{Choice.{chosen, is_usable_spoke}, Least.{IsLeast, is_least, is_less, is_usable_below}};
 
 use crate::Spoke;
 

@@ -3,13 +3,9 @@ ghost use Rattle.std.specs.Prelude.{◌≡◌, ◌<◌, [], true, is_some, lengt
 ghost use Rattle.net_base.specs.plan.Accepted.{IsChecked};
 ghost use Rattle.independent_mode.specs.Receiver.{HoldsBy};
 ghost use Rattle.independent_model.specs.Calls.{independent_connects, independent_hears, is_connected, loses, sets, uses};
-ghost use Rattle.independent_model.specs.State.{first_state};
-ghost use Rattle.independent_model.specs.Wires.{other_end};
-ghost use Rattle.independent_model.specs.Work.{NeverRefused};
-ghost use Rattle.status_exchange.specs.Exchange.{put_at_place};
-ghost use Rattle.status_exchange.specs.Wish.{is_same_wish};
-ghost use Rattle.switchover_model.specs.Network.{IsGoing, takes_all};
-ghost use Rattle.switchover_model.specs.Text.{used as used_by};
+ghost use Rattle.independent_model.specs.{State.{first_state}, Wires.{other_end}, Work.{NeverRefused}};
+ghost use Rattle.status_exchange.specs.{Exchange.{put_at_place}, Wish.{is_same_wish}};
+ghost use Rattle.switchover_model.specs.{Network.{IsGoing, takes_all}, Text.{used as used_by}};
 ghost use Rattle.switchover_net.specs.Rows.{AreFresh, HasDoneWork, NeverLink, seen_row};
 
 use crate::taking_link::TakingLink;

@@ -1,12 +1,8 @@
 //! A whole script.
-ghost use Rattle.std.specs.Prelude.{◌≡◌, ℕ, Some, true, slice_get, IfOk};
-ghost use Rattle.std.specs.List.{All};
-ghost use Rattle.net_base.specs.declared.plan.wire_plan.WirePlan.{WirePlan};
-ghost use Rattle.net_base.specs.plan.Accepted.{IsChecked};
+ghost use Rattle.std.specs.{Prelude.{◌≡◌, ℕ, Some, true, slice_get, IfOk}, List.{All}};
+ghost use Rattle.net_base.specs.{declared.plan.wire_plan.WirePlan.{WirePlan}, plan.Accepted.{IsChecked}};
 ghost use Rattle.independent_model.specs.Wires.{is_between};
-ghost use Rattle.switchover_model.specs.Laws.{AgreesOn, HasSwitchTypes};
-ghost use Rattle.switchover_model.specs.Network.{done_all, first_network};
-ghost use Rattle.switchover_model.specs.Text.{script_entries};
+ghost use Rattle.switchover_model.specs.{Laws.{AgreesOn, HasSwitchTypes}, Network.{done_all, first_network}, Text.{script_entries}};
 ghost use Rattle.switchover_model.specs.Planned.{IsLineOf};
 
 use crate::SwitchNet;

@@ -1,8 +1,7 @@
 //! The network of edges in independent mode.
 ghost use Rattle.std.specs.Prelude.{◌≡◌, ◌<◌, List, IfOk};
 ghost use Rattle.net_base.specs.plan.Accepted.{IsChecked};
-ghost use Rattle.switchover_model.specs.Laws.{HasSwitchTypes};
-ghost use Rattle.switchover_model.specs.Network.{first_network};
+ghost use Rattle.switchover_model.specs.{Laws.{HasSwitchTypes}, Network.{first_network}};
 ghost use Rattle.switchover_net.specs.Net.{ShowsSwitchState};
 
 mod lines;

@@ -2,8 +2,7 @@
 ghost use Rattle.std.specs.Prelude.{◌≡◌, ◌∷◌, [], map};
 ghost use Rattle.report_text.specs.Words.{edge_name, wire_name};
 ghost use Rattle.switchover_text.specs.Text.{answer_word, told_lines, entry_words_told};
-ghost use Rattle.text_lines.specs.Lines.{line_of, word_octets};
-ghost use Rattle.text_lines.specs.Written.{PutsOn};
+ghost use Rattle.text_lines.specs.{Lines.{line_of, word_octets}, Written.{PutsOn}};
 ghost use Rattle.text_pieces.specs.Pieces.{hex};
 
 use net_base::{EdgeId, Failed, Plan, Sink, WireId};

@@ -1,10 +1,8 @@
 //! A line of the script.
-ghost use Rattle.std.specs.Prelude.{◌≡◌, ◌∷◌, [], codes, map};
-ghost use Rattle.std.specs.Fmt.{decimal};
+ghost use Rattle.std.specs.{Prelude.{◌≡◌, ◌∷◌, [], codes, map}, Fmt.{decimal}};
 ghost use Rattle.report_text.specs.Words.{edge_name, wire_name};
 ghost use Rattle.switchover_text.specs.Text.{done_line, wish_word};
-ghost use Rattle.text_lines.specs.Lines.{word_octets};
-ghost use Rattle.text_lines.specs.Written.{PutsOn};
+ghost use Rattle.text_lines.specs.{Lines.{word_octets}, Written.{PutsOn}};
 
 use net_base::{EdgeId, Failed, Plan, Sink, WireId};
 use report_text::{edge_word, wire_word};

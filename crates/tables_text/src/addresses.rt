@@ -5,8 +5,7 @@ ghost use Rattle.edge_model.specs.State.{addresses_of};
 ghost use Rattle.hvpls_spokes.specs.Port.{ports_of};
 ghost use Rattle.provider_edge.specs.Lists.{seen};
 ghost use Rattle.tables_text.specs.Tables.{address_line, address_lines, address_words, port_name, service_lines, service_name, service_text};
-ghost use Rattle.text_lines.specs.Lines.{word_octets};
-ghost use Rattle.text_lines.specs.Written.{PutsOn};
+ghost use Rattle.text_lines.specs.{Lines.{word_octets}, Written.{PutsOn}};
 
 use crate::sorting::Sorting;
 use hvpls_spokes::{Port, Ports};

@@ -3,8 +3,7 @@ ghost use Rattle.std.specs.Prelude.{◌≡◌, map};
 ghost use Rattle.net_base.specs.plan.Accepted.{IsWithinLimits};
 ghost use Rattle.provider_edge.specs.Lists.{seen};
 ghost use Rattle.tables_text.specs.Tables.{edge_text, edge_words};
-ghost use Rattle.text_lines.specs.Lines.{word_octets};
-ghost use Rattle.text_lines.specs.Written.{PutsOn};
+ghost use Rattle.text_lines.specs.{Lines.{word_octets}, Written.{PutsOn}};
 
 use crate::addresses::put_addresses;
 use crate::ends::put_ends;

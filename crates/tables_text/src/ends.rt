@@ -1,14 +1,11 @@
 //! The lines of the ends of an edge.
 ghost use Rattle.std.specs.Prelude.{◌≡◌, ◌<◌, length, map, option_copied};
-ghost use Rattle.edge_model.specs.EndPlaces.{end_places};
-ghost use Rattle.edge_model.specs.Role.{down_at};
-ghost use Rattle.edge_model.specs.State.{end_at};
+ghost use Rattle.edge_model.specs.{EndPlaces.{end_places}, Role.{down_at}, State.{end_at}};
 ghost use Rattle.provider_edge.specs.Lists.{seen};
 ghost use Rattle.pw_ends.specs.Ends.{place_of};
 ghost use Rattle.pw_signalling.specs.AnyEnd.{end_of};
 ghost use Rattle.tables_text.specs.Tables.{end_line, end_lines, end_text, end_words, local_text, remote_text};
-ghost use Rattle.text_lines.specs.Lines.{word_octets};
-ghost use Rattle.text_lines.specs.Written.{PutsOn};
+ghost use Rattle.text_lines.specs.{Lines.{word_octets}, Written.{PutsOn}};
 
 use edge_model::EndPlace;
 use net_base::{Down, Failed, Sink};

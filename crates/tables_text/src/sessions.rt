@@ -1,11 +1,9 @@
 //! The lines of the sessions of an edge.
 ghost use Rattle.std.specs.Prelude.{◌≡◌, [], map, if◌then◌else◌};
-ghost use Rattle.net_base.specs.plan.Accepted.{IsWithinLimits};
-ghost use Rattle.net_base.specs.plan.Paths.{are_joined};
+ghost use Rattle.net_base.specs.{plan.Accepted.{IsWithinLimits}, plan.Paths.{are_joined}};
 ghost use Rattle.provider_edge.specs.Lists.{seen};
 ghost use Rattle.tables_text.specs.Tables.{session_line, session_lines, session_words};
-ghost use Rattle.text_lines.specs.Lines.{word_octets};
-ghost use Rattle.text_lines.specs.Written.{PutsOn};
+ghost use Rattle.text_lines.specs.{Lines.{word_octets}, Written.{PutsOn}};
 
 use net_base::{EdgeId, Failed, Sink};
 use provider_edge::Edge;

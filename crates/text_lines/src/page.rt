@@ -1,9 +1,7 @@
 //! Pages.
-ghost use Rattle.std.specs.Prelude.{◌≡◌, ◌<◌, ◌≤◌, ◌+◌, ◌*◌, ◌++◌, ◌∷◌, [], codes, length, take, map, IfOk, OnOk, OnErr};
-ghost use Rattle.std.specs.Fmt.{decimal};
+ghost use Rattle.std.specs.{Prelude.{◌≡◌, ◌<◌, ◌≤◌, ◌+◌, ◌*◌, ◌++◌, ◌∷◌, [], codes, length, take, map, IfOk, OnOk, OnErr}, Fmt.{decimal}};
 ghost use Rattle.text_pieces.specs.Pieces.{hex, spaced};
-ghost use Rattle.text_lines.specs.Lines.{line_end, line_of, word_octets};
-ghost use Rattle.text_lines.specs.Written.{lines_written, IsCut, Moves, PutsOn, Writes};
+ghost use Rattle.text_lines.specs.{Lines.{line_end, line_of, word_octets}, Written.{lines_written, IsCut, Moves, PutsOn, Writes}};
 
 use crate::line_word::LineWord;
 use crate::whole::write_text;

@@ -1,6 +1,5 @@
 //! Octets, words and numbers.
-ghost use Rattle.std.specs.Prelude.{◌≡◌, ◌<◌, ◌++◌, codes, OnOk};
-ghost use Rattle.std.specs.Fmt.{decimal};
+ghost use Rattle.std.specs.{Prelude.{◌≡◌, ◌<◌, ◌++◌, codes, OnOk}, Fmt.{decimal}};
 
 use itoa::write_digits;
 use net_values::NoMemory;

@@ -1,7 +1,6 @@
 //! Items of an array.
 ghost use Rattle.std.specs.Prelude.{◌≡◌, ◌++◌, [], ◌∷◌, map, string_bytes, OnOk};
-ghost use Rattle.toml.specs.Data.{string, table};
-ghost use Rattle.toml.specs.View.{view, table_view};
+ghost use Rattle.toml.specs.{Data.{string, table}, View.{view, table_view}};
 
 use net_values::NoMemory;
 use toml::{Table, Value};

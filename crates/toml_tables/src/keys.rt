@@ -1,7 +1,6 @@
 //! Keys of a table.
 ghost use Rattle.std.specs.Prelude.{◌≡◌, pos, map, OnOk};
-ghost use Rattle.toml.specs.Data.{no_members, string, integer, boolean, array, table};
-ghost use Rattle.toml.specs.View.{view, items_of, table_view};
+ghost use Rattle.toml.specs.{Data.{no_members, string, integer, boolean, array, table}, View.{view, items_of, table_view}};
 ghost use Rattle.toml_tables.specs.Tables.{put, put_some, put_told};
 
 use net_values::NoMemory;

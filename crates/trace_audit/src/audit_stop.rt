@@ -19,8 +19,7 @@ pub enum AuditStop {
 }
 
 impl From<NoMemory> for AuditStop {
-    ghost use Rattle.std.specs.Prelude.{◌≡◌};
-    ghost use Rattle.std.specs.Prelude.{◌≡◌};
+    ghost use Rattle.std.specs.{Prelude.{◌≡◌}, Prelude.{◌≡◌}};
     ghost use Rattle.trace_audit.specs.declared.audit_stop.AuditStop.TheVariants as stop;
 
     ghost from_gives = { λ _ e. e ≡ stop.NoMemory };
@@ -31,8 +30,7 @@ impl From<NoMemory> for AuditStop {
 }
 
 impl From<ReportFault> for AuditStop {
-    ghost use Rattle.std.specs.Prelude.{◌≡◌};
-    ghost use Rattle.std.specs.Prelude.{◌≡◌};
+    ghost use Rattle.std.specs.{Prelude.{◌≡◌}, Prelude.{◌≡◌}};
     ghost use Rattle.trace_audit.specs.Heard.{fault_stop};
 
     ghost from_gives = { λ fault e. e ≡ fault_stop fault };

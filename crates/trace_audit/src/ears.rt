@@ -1,7 +1,6 @@
 //! What was heard of the entries of a report.
 ghost use Rattle.std.specs.Prelude.{◌≡◌, ◌<◌, ◌+◌, ◌++◌, ◌∷◌, ◌^◌, [], List, IfOk, OnOk};
-ghost use Rattle.net_base.specs.declared.trace.entry.Entry.{Entry as Told};
-ghost use Rattle.net_base.specs.plan.Accepted.{IsChecked};
+ghost use Rattle.net_base.specs.{declared.trace.entry.Entry.{Entry as Told}, plan.Accepted.{IsChecked}};
 ghost use Rattle.seen_state.specs.Placed.{IsPlaced};
 ghost use Rattle.trace_audit.specs.Heard.{AnswersRule, AreEarsOf, HasHeardAll, WereHeard};
 

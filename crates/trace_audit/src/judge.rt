@@ -1,7 +1,6 @@
 //! What is known of a report behind the lines that were read.
 ghost use Rattle.std.specs.Prelude.{◌≡◌, ◌<◌, ◌+◌, ◌++◌, ◌^◌, IfOk, OnOk, option_map};
-ghost use Rattle.net_base.specs.plan.Places.{is_mesh_wire, service_of};
-ghost use Rattle.net_base.specs.trace.Split.{is_inside, is_switching_point};
+ghost use Rattle.net_base.specs.{plan.Places.{is_mesh_wire, service_of}, trace.Split.{is_inside, is_switching_point}};
 ghost use Rattle.trace_audit.specs.Judged.{begun, came_after, crosses, entered_at, first_line, has_one, inner_found, is_crossing, is_stray, judges, with_one};
 ghost use Rattle.trace_audit.specs.Arrivals.{entered_of};
 

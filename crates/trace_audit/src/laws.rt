@@ -1,6 +1,5 @@
 //! What is known of a trace is what the rules say of it.
-ghost use Rattle.trace_audit.specs.Laws.{CrossingsAreTold, StraysAreTold};
-ghost use Rattle.trace_audit.specs.Yes.{GoodReportsGetYes};
+ghost use Rattle.trace_audit.specs.{Laws.{CrossingsAreTold, StraysAreTold}, Yes.{GoodReportsGetYes}};
 
 /// No line of a stray frame is known exactly where each frame that left had entered before, at a circuit of the same service, as the
 /// same inner frame.

@@ -3,8 +3,7 @@ ghost use Rattle.std.specs.Prelude.{◌≡◌, ◌<◌, ◌≤◌, ◌+◌, ◌^
 ghost use Rattle.net_base.specs.plan.Accepted.{IsChecked};
 ghost use Rattle.command_text.specs.Planned.{names_of};
 ghost use Rattle.report_entries.specs.Answers.{HasBegun};
-ghost use Rattle.trace_audit.specs.Audited.{IsAudited};
-ghost use Rattle.trace_audit.specs.Heard.{AreEarsOf, HearsReport, HearsLine};
+ghost use Rattle.trace_audit.specs.{Audited.{IsAudited}, Heard.{AreEarsOf, HearsReport, HearsLine}};
 
 use crate::AuditStop;
 use crate::ears::Ears;

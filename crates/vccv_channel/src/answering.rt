@@ -1,8 +1,6 @@
 //! The packet of an echo reply.
 ghost use Rattle.std.specs.Prelude.{◌≡◌, ◌≤◌, ◌+◌, ◌++◌, ◌∷◌, [], length, take, drop, slice_index};
-ghost use Rattle.vccv_channel.specs.Channel.{channel_packet};
-ghost use Rattle.vccv_channel.specs.Echo.{answer_packet};
-ghost use Rattle.vccv_channel.specs.Reading.{IsRequest};
+ghost use Rattle.vccv_channel.specs.{Channel.{channel_packet}, Echo.{answer_packet}, Reading.{IsRequest}};
 
 use crate::Cc;
 use crate::channel::put_channel;

@@ -1,7 +1,6 @@
 //! What stands before the IPv4 packet in a control channel.
 ghost use Rattle.std.specs.Prelude.{◌≡◌, ◌≤◌, ◌+◌, ◌++◌, length, drop};
-ghost use Rattle.vccv_channel.specs.LabelStack.{stack_entry};
-ghost use Rattle.vccv_channel.specs.Channel.{label_stack, channel_header};
+ghost use Rattle.vccv_channel.specs.{LabelStack.{stack_entry}, Channel.{label_stack, channel_header}};
 
 use crate::Cc;
 use crate::octets::joined;

@@ -1,12 +1,8 @@
 //! Laws of echo packets.
 ghost use Rattle.std.specs.Prelude.{◌≡◌, ℕ, List, length, false, Ok};
-ghost use Rattle.net_values.specs.declared.addr.Addr.{Addr};
-ghost use Rattle.vccv_channel.specs.declared.cc.Cc.{Cc};
-ghost use Rattle.vccv_channel.specs.declared.ping.Ping.{Ping};
-ghost use Rattle.vccv_channel.specs.declared.echo.Echo.TheVariants.{Request, Answer};
-ghost use Rattle.vccv_channel.specs.Channel.{has_header, payload};
-ghost use Rattle.net_values.specs.Octets.{AreOctets};
-ghost use Rattle.vccv_channel.specs.Echo.{request_packet, answer_packet, IsPing, IsAnswerTo};
+ghost use Rattle.net_values.specs.{declared.addr.Addr.{Addr}, Octets.{AreOctets}};
+ghost use Rattle.vccv_channel.specs.{declared.cc.Cc.{Cc}, declared.ping.Ping.{Ping}, declared.echo.Echo.TheVariants.{Request, Answer}};
+ghost use Rattle.vccv_channel.specs.{Channel.{has_header, payload}, Echo.{request_packet, answer_packet, IsPing, IsAnswerTo}};
 ghost use Rattle.vccv_channel.specs.Reading.{reading, IsRequest};
 
 /// What is written is read, in the control channel of each type: behind the label stack a request says what its ping

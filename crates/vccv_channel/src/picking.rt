@@ -1,6 +1,5 @@
 //! Which control channel is used.
-ghost use Rattle.std.specs.Prelude.{◌≡◌, ◌==◌, ◌<◌, ◌&&◌};
-ghost use Rattle.std.specs.Int.{bit_at};
+ghost use Rattle.std.specs.{Prelude.{◌≡◌, ◌==◌, ◌<◌, ◌&&◌}, Int.{bit_at}};
 ghost use Rattle.vccv_channel.specs.Pick.{picked, shared, offers};
 
 use crate::Cc;

@@ -1,8 +1,7 @@
 //! The packet of an echo request.
 ghost use Rattle.std.specs.Prelude.{◌≡◌, ◌≤◌, ◌++◌, length, drop};
 ghost use Rattle.byteorder.specs.Endian.{big_bytes};
-ghost use Rattle.vccv_channel.specs.Channel.{channel_packet};
-ghost use Rattle.vccv_channel.specs.Echo.{request_packet};
+ghost use Rattle.vccv_channel.specs.{Channel.{channel_packet}, Echo.{request_packet}};
 
 use crate::channel::put_channel;
 use crate::checksum::put_summed;

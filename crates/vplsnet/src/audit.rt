@@ -2,13 +2,8 @@
 ghost use Rattle.std.specs.Prelude.{◌≡◌, [], None};
 ghost use Rattle.net_base.specs.plan.Accepted.{IsChecked};
 ghost use Rattle.text_lines.specs.Written.{lines_written};
-ghost use Rattle.vplsnet.specs.Answers.{SaysOutcome};
-ghost use Rattle.vplsnet.specs.Around.{Has, around};
-ghost use Rattle.vplsnet.specs.Asked.{Audit};
-ghost use Rattle.vplsnet.specs.Audit.{outcome_of_stop};
-ghost use Rattle.vplsnet.specs.Finish.{exit_status};
-ghost use Rattle.vplsnet.specs.Reads.{GainsReads, IsReadOfNext};
-ghost use Rattle.vplsnet.specs.Writing.{EndsAudit};
+ghost use Rattle.vplsnet.specs.{Answers.{SaysOutcome}, Around.{Has, around}, Asked.{Audit}, Audit.{outcome_of_stop}, Finish.{exit_status}};
+ghost use Rattle.vplsnet.specs.{Reads.{GainsReads, IsReadOfNext}, Writing.{EndsAudit}};
 
 use crate::audit_rule::AuditRule;
 use crate::finish::Finish;

@@ -1,10 +1,8 @@
 //! The command `capture`: the frames that left a circuit in a scenario's run.
-ghost use Rattle.std.specs.Prelude.{◌≡◌, ◌<◌, length, option_map, position, IfSome};
-ghost use Rattle.std.specs.Str.{bytes_eq};
+ghost use Rattle.std.specs.{Prelude.{◌≡◌, ◌<◌, length, option_map, position, IfSome}, Str.{bytes_eq}};
 ghost use Rattle.net_base.specs.plan.Accepted.{IsChecked};
 ghost use Rattle.text_lines.specs.Written.{PutsOn};
-ghost use Rattle.vplsnet.specs.Asked.{asked_by};
-ghost use Rattle.vplsnet.specs.Capture.{circuit_of as place_of, lacks_circuit, lacking as lacks, left_at};
+ghost use Rattle.vplsnet.specs.{Asked.{asked_by}, Capture.{circuit_of as place_of, lacks_circuit, lacking as lacks, left_at}};
 
 use crate::request::Request;
 use capture_text::put_capture;

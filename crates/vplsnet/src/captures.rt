@@ -1,10 +1,8 @@
 //! The captures that a scenario plays.
 ghost use Rattle.std.specs.Prelude.{◌≡◌, ◌≢◌, All, IfErr, IfOk, OnOk};
-ghost use Rattle.net_base.specs.outside.Outside.{NeverFall};
-ghost use Rattle.net_base.specs.plan.Planned.{IsFrame};
+ghost use Rattle.net_base.specs.{outside.Outside.{NeverFall}, plan.Planned.{IsFrame}};
 ghost use Rattle.vplsnet.specs.Captures.{FailsToPlay, GainsPlayed, HasFrames, HasPlayed, IsNoCapture, IsToldAs};
-ghost use Rattle.vplsnet.specs.Inputs.{capture_limit, played, played_by};
-ghost use Rattle.vplsnet.specs.Reads.{GainsReads, IsPlayedRead, IsReadOf};
+ghost use Rattle.vplsnet.specs.{Inputs.{capture_limit, played, played_by}, Reads.{GainsReads, IsPlayedRead, IsReadOf}};
 
 use crate::named_file::octets_of;
 use crate::outcome::Outcome;

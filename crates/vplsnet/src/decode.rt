@@ -1,9 +1,6 @@
 //! The command `decode`: the lines of a stream of LDP messages.
 ghost use Rattle.std.specs.Prelude.{◌≡◌};
-ghost use Rattle.vplsnet.specs.Answers.{SaysOutcome};
-ghost use Rattle.vplsnet.specs.Around.{Has, around};
-ghost use Rattle.vplsnet.specs.Asked.{Decode};
-ghost use Rattle.vplsnet.specs.Finish.{exit_status};
+ghost use Rattle.vplsnet.specs.{Answers.{SaysOutcome}, Around.{Has, around}, Asked.{Decode}, Finish.{exit_status}};
 ghost use Rattle.vplsnet.specs.Reads.{GainsReads, IsReadOfNext};
 
 use crate::decoder::Decoder;

@@ -1,11 +1,9 @@
 //! A stream whose messages are written as lines.
 ghost use Rattle.std.specs.Prelude.{◌≡◌, ◌<◌, ◌^◌, [], None, length, IfErr, IfOk, OnOk};
-ghost use Rattle.ldp_stream.specs.Front.{IsPending};
-ghost use Rattle.ldp_stream.specs.State.{empty};
+ghost use Rattle.ldp_stream.specs.{Front.{IsPending}, State.{empty}};
 ghost use Rattle.text_lines.specs.Written.{lines_written};
 ghost use Rattle.vplsnet.specs.StreamSteps.{IsStreamGoing, IsStopped, LeavesSome, StopsIn, TakesOne, TextGoesOn};
-ghost use Rattle.vplsnet.specs.StreamText.{largest_pdu};
-ghost use Rattle.vplsnet.specs.Writing.{EndsStream};
+ghost use Rattle.vplsnet.specs.{StreamText.{largest_pdu}, Writing.{EndsStream}};
 
 use crate::outcome::Outcome;
 use crate::stream_stop::StreamStop;

@@ -1,18 +1,11 @@
 //! The command `discover`: the report of a script over the network of a scenario.
 ghost use Rattle.std.specs.Prelude.{◌≡◌, ◌<◌, ◌^◌, ◌-◌, [], All, length};
 ghost use Rattle.command_text.specs.Planned.{names_of};
-ghost use Rattle.discovery_script.specs.Lines.{discovery_lines_in};
-ghost use Rattle.discovery_script.specs.Planned.{IsDiscoveryLineOf};
+ghost use Rattle.discovery_script.specs.{Lines.{discovery_lines_in}, Planned.{IsDiscoveryLineOf}};
 ghost use Rattle.net_base.specs.plan.Accepted.{IsChecked};
 ghost use Rattle.text_lines.specs.Written.{PutsOn, lines_written};
-ghost use Rattle.vplsnet.specs.Answers.{SaysOutcome};
-ghost use Rattle.vplsnet.specs.Around.{Has, around};
-ghost use Rattle.vplsnet.specs.Asked.{Discover};
-ghost use Rattle.vplsnet.specs.Discover.{discovery_text};
-ghost use Rattle.vplsnet.specs.Finish.{exit_status};
-ghost use Rattle.vplsnet.specs.Reads.{GainsReads, IsReadOfNext};
-ghost use Rattle.vplsnet.specs.ScriptFile.{EndsScript};
-ghost use Rattle.vplsnet.specs.Writing.{EndsDiscovery};
+ghost use Rattle.vplsnet.specs.{Answers.{SaysOutcome}, Around.{Has, around}, Asked.{Discover}, Discover.{discovery_text}};
+ghost use Rattle.vplsnet.specs.{Finish.{exit_status}, Reads.{GainsReads, IsReadOfNext}, ScriptFile.{EndsScript}, Writing.{EndsDiscovery}};
 
 use crate::finish::Finish;
 use crate::outcome::Outcome;

@@ -1,8 +1,7 @@
 //! Whole files, read in pieces.
 ghost use Rattle.std.specs.Prelude.{◌≡◌, ◌<◌, ◌≤◌, ◌+◌, ◌^◌, length, IfErr, IfOk, IfSome, IsErrOf, OnOk, Some};
 ghost use Rattle.net_base.specs.outside.Outside.{Rose, NeverFall};
-ghost use Rattle.vplsnet.specs.Files.{IsFrontOf, IsLonger};
-ghost use Rattle.vplsnet.specs.Reads.{GainsReads, IsReadOf};
+ghost use Rattle.vplsnet.specs.{Files.{IsFrontOf, IsLonger}, Reads.{GainsReads, IsReadOf}};
 
 use net_base::{Failed, List, NoMemory, Octets, Shelf};
 use std::alloc::Global;

@@ -1,7 +1,6 @@
 //! The end of a call of the program.
 ghost use Rattle.std.specs.Prelude.{◌≡◌, None};
-ghost use Rattle.vplsnet.specs.Around.{trace_of};
-ghost use Rattle.vplsnet.specs.Finish.{exit_status};
+ghost use Rattle.vplsnet.specs.{Around.{trace_of}, Finish.{exit_status}};
 
 use crate::outcome::Outcome;
 use net_base::Entry;

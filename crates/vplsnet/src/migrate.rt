@@ -2,12 +2,8 @@
 ghost use Rattle.std.specs.Prelude.{◌≡◌, [], None};
 ghost use Rattle.migration.specs.Law.{WasRead};
 ghost use Rattle.text_lines.specs.Written.{lines_written};
-ghost use Rattle.vplsnet.specs.Answers.{SaysOutcome};
-ghost use Rattle.vplsnet.specs.Around.{Has, around};
-ghost use Rattle.vplsnet.specs.Asked.{Migrate};
-ghost use Rattle.vplsnet.specs.Finish.{exit_status};
-ghost use Rattle.vplsnet.specs.Reads.{GainsReads, IsReadOfNext};
-ghost use Rattle.vplsnet.specs.Writing.{EndsMigration};
+ghost use Rattle.vplsnet.specs.{Answers.{SaysOutcome}, Around.{Has, around}, Asked.{Migrate}, Finish.{exit_status}};
+ghost use Rattle.vplsnet.specs.{Reads.{GainsReads, IsReadOfNext}, Writing.{EndsMigration}};
 
 use crate::finish::Finish;
 use crate::outcome::Outcome;

@@ -1,9 +1,7 @@
 //! A file that is named, read whole.
 ghost use Rattle.std.specs.Prelude.{◌≡◌, ◌≤◌, ◌<◌, ◌^◌, length, IfErr, IfOk};
 ghost use Rattle.net_base.specs.outside.Outside.{NeverFall};
-ghost use Rattle.vplsnet.specs.Around.{Has};
-ghost use Rattle.vplsnet.specs.Files.{IsNotHad, Unread};
-ghost use Rattle.vplsnet.specs.Reads.{GainsReads, IsReadOf};
+ghost use Rattle.vplsnet.specs.{Around.{Has}, Files.{IsNotHad, Unread}, Reads.{GainsReads, IsReadOf}};
 
 use crate::files::{ReadStop, read_file};
 use crate::outcome::Outcome;

@@ -1,6 +1,5 @@
 //! A fault's name with its place in words.
-ghost use Rattle.std.specs.Prelude.{◌≡◌, ◌++◌, ◌∷◌, [], OnOk};
-ghost use Rattle.std.specs.Fmt.{decimal};
+ghost use Rattle.std.specs.{Prelude.{◌≡◌, ◌++◌, ◌∷◌, [], OnOk}, Fmt.{decimal}};
 ghost use Rattle.text_pieces.specs.Pieces.{spaced};
 
 use net_base::NoMemory;

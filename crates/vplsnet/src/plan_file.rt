@@ -1,8 +1,7 @@
 //! A scenario's file, and a second file that is read behind it.
 ghost use Rattle.std.specs.Prelude.{◌≡◌, ◌<◌, ◌^◌, IfErr, IfOk};
 ghost use Rattle.net_base.specs.plan.Accepted.{IsChecked};
-ghost use Rattle.vplsnet.specs.PlanFile.{HasBoth, IsReadOfTwo, LacksOne};
-ghost use Rattle.vplsnet.specs.Reads.{GainsReads};
+ghost use Rattle.vplsnet.specs.{PlanFile.{HasBoth, IsReadOfTwo, LacksOne}, Reads.{GainsReads}};
 
 use crate::named_file::octets_of;
 use crate::outcome::Outcome;

@@ -1,9 +1,7 @@
 //! The command `rehearse`: the counts of the run of a generated scenario.
-ghost use Rattle.std.specs.Prelude.{◌++◌, ◌∷◌, [], codes};
-ghost use Rattle.std.specs.Fmt.{decimal};
+ghost use Rattle.std.specs.{Prelude.{◌++◌, ◌∷◌, [], codes}, Fmt.{decimal}};
 ghost use Rattle.report_text.specs.Report.{counts_line};
-ghost use Rattle.text_lines.specs.Lines.{line_of};
-ghost use Rattle.text_lines.specs.Written.{PutsOn};
+ghost use Rattle.text_lines.specs.{Lines.{line_of}, Written.{PutsOn}};
 
 use net_base::{Entry, Failed, Sink};
 use report_text::{Ending, put_last_line};

@@ -1,15 +1,10 @@
 //! All that the program does.
 ghost use Rattle.std.specs.Prelude.{◌≡◌, ◌↔◌, [], All, None, Some, map, string_bytes, IfErr, IfOk, IfSome};
-ghost use Rattle.net_base.specs.plan.Accepted.{IsChecked};
-ghost use Rattle.net_base.specs.plan.Planned.{IsFrame};
+ghost use Rattle.net_base.specs.{plan.Accepted.{IsChecked}, plan.Planned.{IsFrame}};
 ghost use Rattle.command_text.specs.Planned.{IsPlanned};
 ghost use Rattle.text_lines.specs.Written.{lines_written};
-ghost use Rattle.vplsnet.specs.Answers.{Completes, Finishes, IsRefused};
-ghost use Rattle.vplsnet.specs.Around.{Has, around};
-ghost use Rattle.vplsnet.specs.Asked.{asked, asked_by};
-ghost use Rattle.vplsnet.specs.Finish.{exit_status};
-ghost use Rattle.vplsnet.specs.Inputs.{ComesTo, Run, Works};
-ghost use Rattle.vplsnet.specs.Reads.{GainsReads, IsReadOfNext, MayRead};
+ghost use Rattle.vplsnet.specs.{Answers.{Completes, Finishes, IsRefused}, Around.{Has, around}, Asked.{asked, asked_by}};
+ghost use Rattle.vplsnet.specs.{Finish.{exit_status}, Inputs.{ComesTo, Run, Works}, Reads.{GainsReads, IsReadOfNext, MayRead}};
 ghost use Rattle.vplsnet.specs.Writing.{EndsRun, RunsScenario};
 
 use crate::audit::audit_files;

@@ -1,8 +1,7 @@
 //! The text that a command writes of a run.
 ghost use Rattle.net_base.specs.plan.Accepted.{IsChecked};
 ghost use Rattle.text_lines.specs.Written.{PutsOn};
-ghost use Rattle.vplsnet.specs.Answers.{run_text};
-ghost use Rattle.vplsnet.specs.Asked.{asked_by};
+ghost use Rattle.vplsnet.specs.{Answers.{run_text}, Asked.{asked_by}};
 
 use crate::capture::put_left;
 use crate::rehearse::put_counts;

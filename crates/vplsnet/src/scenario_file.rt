@@ -1,13 +1,8 @@
 //! The scenario of a file, with the captures that it plays.
 ghost use Rattle.std.specs.Prelude.{◌≡◌, All, IfErr, IfOk, Ok};
-ghost use Rattle.net_base.specs.outside.Outside.{NeverFall};
-ghost use Rattle.net_base.specs.plan.Accepted.{IsChecked};
-ghost use Rattle.net_base.specs.plan.Planned.{IsFrame};
+ghost use Rattle.net_base.specs.{outside.Outside.{NeverFall}, plan.Accepted.{IsChecked}, plan.Planned.{IsFrame}};
 ghost use Rattle.command_text.specs.Planned.{IsPlanned};
-ghost use Rattle.vplsnet.specs.Answers.{IsRefused};
-ghost use Rattle.vplsnet.specs.Around.{Has};
-ghost use Rattle.vplsnet.specs.Asked.{asked_by};
-ghost use Rattle.vplsnet.specs.Inputs.{ComesTo, Run, Works, scenario_limit};
+ghost use Rattle.vplsnet.specs.{Answers.{IsRefused}, Around.{Has}, Asked.{asked_by}, Inputs.{ComesTo, Run, Works, scenario_limit}};
 ghost use Rattle.vplsnet.specs.Reads.{GainsReads, IsCaptureRead, IsReadOf, IsReadOfNext};
 ghost use Rattle.vplsnet.specs.ScenarioFile.{HasAll, HasNoScenario, IsOfFile, LacksSome, ReadsScenario, outcome_of_fault};
 

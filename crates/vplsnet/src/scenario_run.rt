@@ -1,10 +1,8 @@
 //! The run of a scenario: each command makes its events, and the network does them in turn.
 ghost use Rattle.std.specs.Prelude.{◌≡◌, All, IfOk};
-ghost use Rattle.net_base.specs.plan.Accepted.{IsChecked};
-ghost use Rattle.net_base.specs.plan.Planned.{IsFrame};
+ghost use Rattle.net_base.specs.{plan.Accepted.{IsChecked}, plan.Planned.{IsFrame}};
 ghost use Rattle.command_text.specs.Planned.{IsPlanned};
-ghost use Rattle.vplsnet.specs.RunOver.{outcome_by};
-ghost use Rattle.vplsnet.specs.ScenarioRun.{HasRun};
+ghost use Rattle.vplsnet.specs.{RunOver.{outcome_by}, ScenarioRun.{HasRun}};
 
 use crate::outcome::Outcome;
 use crate::types::see_types;

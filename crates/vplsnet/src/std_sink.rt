@@ -1,8 +1,6 @@
 //! The sink over a writer of the system.
-ghost use Rattle.std.specs.Prelude.{◌≡◌, ◌<◌, ◌≤◌, length, IfOk, IsOkAnd};
+ghost use Rattle.std.specs.{Prelude.{◌≡◌, ◌<◌, ◌≤◌, length, IfOk, IsOkAnd}, Io.{WritesAtMost}, Io.KnownBytes.{WriteAppends}};
 ghost use Rattle.net_base.specs.outside.Outside.{HasCause, Takes};
-ghost use Rattle.std.specs.Io.{WritesAtMost};
-ghost use Rattle.std.specs.Io.KnownBytes.{WriteAppends};
 ghost use Rattle.vplsnet.specs.Files.{count_after};
 
 use net_base::{Failed, Sink};

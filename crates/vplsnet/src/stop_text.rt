@@ -1,6 +1,5 @@
 //! The limit that stopped a run, in words.
-ghost use Rattle.std.specs.Prelude.{◌≡◌, ◌++◌, ◌∷◌, [], OnOk};
-ghost use Rattle.std.specs.Fmt.{decimal};
+ghost use Rattle.std.specs.{Prelude.{◌≡◌, ◌++◌, ◌∷◌, [], OnOk}, Fmt.{decimal}};
 ghost use Rattle.text_pieces.specs.Pieces.{spaced};
 ghost use Rattle.vplsnet.specs.StopText.{stop_words};
 

@@ -1,6 +1,5 @@
 //! The fault of a stream in words.
-ghost use Rattle.std.specs.Prelude.{◌≡◌, ◌++◌, ◌∷◌, [], OnOk};
-ghost use Rattle.std.specs.Fmt.{decimal};
+ghost use Rattle.std.specs.{Prelude.{◌≡◌, ◌++◌, ◌∷◌, [], OnOk}, Fmt.{decimal}};
 ghost use Rattle.text_pieces.specs.Pieces.{spaced};
 ghost use Rattle.message_text.specs.Words.{field_name};
 ghost use Rattle.vplsnet.specs.StreamFaultText.{decode_fault_words, stream_fault_words};

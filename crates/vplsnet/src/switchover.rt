@@ -4,13 +4,8 @@ ghost use Rattle.net_base.specs.plan.Accepted.{IsChecked};
 ghost use Rattle.switchover_model.specs.Planned.{IsLineOf};
 ghost use Rattle.switchover_script.specs.Lines.{switch_lines_in};
 ghost use Rattle.text_lines.specs.Written.{lines_written};
-ghost use Rattle.vplsnet.specs.Answers.{SaysOutcome};
-ghost use Rattle.vplsnet.specs.Around.{Has, around};
-ghost use Rattle.vplsnet.specs.Asked.{Switchover};
-ghost use Rattle.vplsnet.specs.Finish.{exit_status};
-ghost use Rattle.vplsnet.specs.Reads.{GainsReads, IsReadOfNext};
-ghost use Rattle.vplsnet.specs.ScriptFile.{EndsScript};
-ghost use Rattle.vplsnet.specs.Writing.{EndsExchange};
+ghost use Rattle.vplsnet.specs.{Answers.{SaysOutcome}, Around.{Has, around}, Asked.{Switchover}, Finish.{exit_status}};
+ghost use Rattle.vplsnet.specs.{Reads.{GainsReads, IsReadOfNext}, ScriptFile.{EndsScript}, Writing.{EndsExchange}};
 
 use crate::finish::Finish;
 use crate::outcome::Outcome;

@@ -1,7 +1,6 @@
 //! What the types of a plan say of it. Nothing is worked out here: where a value is named, its type tells the proof its range. The walk
 //! over the plan, one for each run, takes run time for the proof alone.
-ghost use Rattle.std.specs.Prelude.{◌≤◌, ◌<◌, ◌^◌, IfSome, length};
-ghost use Rattle.std.specs.List.{All, AllByRecursion};
+ghost use Rattle.std.specs.{Prelude.{◌≤◌, ◌<◌, ◌^◌, IfSome, length}, List.{All, AllByRecursion}};
 ghost use Rattle.net_values.specs.Octets.{AreOctets};
 ghost use Rattle.session_core.specs.Laws.{IsAddress};
 ghost use Rattle.flight_laws.specs.Ends.{AreFieldOffers, HasTypes, IsFieldOffer};

@@ -1,10 +1,8 @@
 //! Virtual switch instances.
 ghost use Rattle.std.specs.Prelude.{◌≡◌, ◌==◌, ◌<◌, ◌&&◌, ℕ, [], filter, not, true, length, IfOk};
-ghost use Rattle.hvpls_spokes.specs.Flood.{is_in_flood};
-ghost use Rattle.hvpls_spokes.specs.PortSet.{holds_port};
+ghost use Rattle.hvpls_spokes.specs.{Flood.{is_in_flood}, PortSet.{holds_port}};
 ghost use Rattle.mac_table.specs.Addresses.{NoneAfter, entry_stays, is_young};
-ghost use Rattle.vsi_bridge.specs.BridgeState.{table_of, most_addresses};
-ghost use Rattle.vsi_bridge.specs.Targets.{heard, is_target, known_port};
+ghost use Rattle.vsi_bridge.specs.{BridgeState.{table_of, most_addresses}, Targets.{heard, is_target, known_port}};
 
 use hvpls_spokes::{PortSet, Ports, flood_set, is_in_flood_set};
 use mac_table::MacTable;

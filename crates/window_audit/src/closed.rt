@@ -1,13 +1,9 @@
 //! The windows that are over.
-ghost use Rattle.std.specs.Prelude.{◌≡◌, ◌++◌, ◌∷◌, [], List as Items, filter, not, OnOk, if◌then◌else◌};
-ghost use Rattle.std.specs.List.{list_any};
-ghost use Rattle.net_base.specs.declared.plan.Plan.{Plan};
-ghost use Rattle.net_base.specs.declared.trace.entry.Entry.{Entry};
-ghost use Rattle.seen_network.specs.Once.{is_sourced_by};
-ghost use Rattle.seen_network.specs.Seen.{Seen};
+ghost use Rattle.std.specs.{Prelude.{◌≡◌, ◌++◌, ◌∷◌, [], List as Items, filter, not, OnOk, if◌then◌else◌}, List.{list_any}};
+ghost use Rattle.net_base.specs.{declared.plan.Plan.{Plan}, declared.trace.entry.Entry.{Entry}};
+ghost use Rattle.seen_network.specs.{Once.{is_sourced_by}, Seen.{Seen}};
 ghost use Rattle.seen_state.specs.SeenState.{Knows};
-ghost use Rattle.window_audit.specs.Lasting.{HasClosed, are_copies_over, was_flooded, windows_at};
-ghost use Rattle.window_audit.specs.Sources.{HasSources};
+ghost use Rattle.window_audit.specs.{Lasting.{HasClosed, are_copies_over, was_flooded, windows_at}, Sources.{HasSources}};
 
 use crate::lasting::Lasting;
 use crate::sources::Sources;

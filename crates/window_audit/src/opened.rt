@@ -1,13 +1,10 @@
 //! The window of a frame that enters.
 ghost use Rattle.std.specs.Prelude.{◌≡◌, ◌<◌, ◌+◌, ◌^◌, List as Items, length};
-ghost use Rattle.net_base.specs.declared.trace.entry.Entry.{Entry as Told};
-ghost use Rattle.net_base.specs.plan.Accepted.{IsWithinLimits};
+ghost use Rattle.net_base.specs.{declared.trace.entry.Entry.{Entry as Told}, plan.Accepted.{IsWithinLimits}};
 ghost use Rattle.seen_network.specs.Seen.{Seen, seen_in};
 ghost use Rattle.seen_state.specs.SeenState.{Knows};
-ghost use Rattle.seen_windows.specs.EventEntries.{HasNoEvent};
-ghost use Rattle.seen_windows.specs.Past.{IsOpened};
-ghost use Rattle.window_audit.specs.CalmMemory.{Remembers};
-ghost use Rattle.window_audit.specs.Past.{FrameOpens};
+ghost use Rattle.seen_windows.specs.{EventEntries.{HasNoEvent}, Past.{IsOpened}};
+ghost use Rattle.window_audit.specs.{CalmMemory.{Remembers}, Past.{FrameOpens}};
 
 use crate::calm_memory::CalmMemory;
 use crate::event_entries::entered;

@@ -1,20 +1,12 @@
 //! What is known behind the events that are over.
 ghost use Rattle.std.specs.Prelude.{◌≡◌, ◌<◌, ◌≤◌, ◌+◌, ◌++◌, ◌∷◌, ◌^◌, [], ℕ, true, Some, List as Items, drop, length, IfOk, OnOk};
-ghost use Rattle.net_base.specs.declared.plan.Plan.{Plan as Planned};
-ghost use Rattle.net_base.specs.declared.trace.entry.Entry.{Entry as Told};
-ghost use Rattle.net_base.specs.declared.trace.entry.Entry.TheVariants.{Did};
-ghost use Rattle.net_base.specs.plan.Accepted.{IsWithinLimits};
+ghost use Rattle.net_base.specs.{declared.plan.Plan.{Plan as Planned}, declared.trace.entry.Entry.{Entry as Told}};
+ghost use Rattle.net_base.specs.{declared.trace.entry.Entry.TheVariants.{Did}, plan.Accepted.{IsWithinLimits}};
 ghost use Rattle.seen_network.specs.Seen.{Seen, seen_from};
-ghost use Rattle.seen_state.specs.Placed.{IsEventWithin};
-ghost use Rattle.seen_state.specs.SeenState.{Knows};
-ghost use Rattle.seen_windows.specs.EventEntries.{HasNoEvent};
-ghost use Rattle.seen_windows.specs.Verdict.{OnceAnswers};
-ghost use Rattle.seen_windows.specs.declared.window.Window.{Window as Found};
-ghost use Rattle.window_audit.specs.CalmMemory.{Remembers};
-ghost use Rattle.window_audit.specs.Exits.{HasExits};
-ghost use Rattle.window_audit.specs.Lasting.{is_one_of, windows_at, with_found};
-ghost use Rattle.window_audit.specs.Losses.{AreWithin};
-ghost use Rattle.window_audit.specs.Past.{AreAtPorts, AreOfOne, ArePlaced, HasSeen, HasWindows, IsPastOf};
+ghost use Rattle.seen_state.specs.{Placed.{IsEventWithin}, SeenState.{Knows}};
+ghost use Rattle.seen_windows.specs.{EventEntries.{HasNoEvent}, Verdict.{OnceAnswers}, declared.window.Window.{Window as Found}};
+ghost use Rattle.window_audit.specs.{CalmMemory.{Remembers}, Exits.{HasExits}, Lasting.{is_one_of, windows_at, with_found}};
+ghost use Rattle.window_audit.specs.{Losses.{AreWithin}, Past.{AreAtPorts, AreOfOne, ArePlaced, HasSeen, HasWindows, IsPastOf}};
 ghost use Rattle.window_audit.specs.Sources.{HasSources};
 
 use crate::calm_memory::CalmMemory;

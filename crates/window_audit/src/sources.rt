@@ -1,8 +1,6 @@
 //! Where frames came from.
-ghost use Rattle.std.specs.Prelude.{◌≡◌, ◌==◌, ◌&&◌, ◌++◌, ◌∷◌, [], ℕ, List, true, OnOk, if◌then◌else◌};
-ghost use Rattle.std.specs.Str.{bytes_eq};
-ghost use Rattle.net_base.specs.declared.plan.Plan.{Plan as Planned};
-ghost use Rattle.net_base.specs.declared.trace.entry.Entry.{Entry as Told};
+ghost use Rattle.std.specs.{Prelude.{◌≡◌, ◌==◌, ◌&&◌, ◌++◌, ◌∷◌, [], ℕ, List, true, OnOk, if◌then◌else◌}, Str.{bytes_eq}};
+ghost use Rattle.net_base.specs.{declared.plan.Plan.{Plan as Planned}, declared.trace.entry.Entry.{Entry as Told}};
 ghost use Rattle.net_values.specs.declared.mac.Mac.{Mac as Address};
 ghost use Rattle.window_audit.specs.Sources.{HasEnteredOnce, HasSources, has_source};
 

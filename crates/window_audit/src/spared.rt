@@ -1,7 +1,6 @@
 //! The windows that an event leaves open.
 ghost use Rattle.std.specs.Prelude.{◌≡◌, ◌||◌, not, ℕ, [], if◌then◌else◌};
-ghost use Rattle.seen_network.specs.Once.{names_seen, spares_seen};
-ghost use Rattle.seen_network.specs.Seen.{Seen};
+ghost use Rattle.seen_network.specs.{Once.{names_seen, spares_seen}, Seen.{Seen}};
 ghost use Rattle.seen_state.specs.Copies.{TellsPackets};
 ghost use Rattle.window_audit.specs.Lasting.{windows_at};
 

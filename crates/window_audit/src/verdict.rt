@@ -1,10 +1,8 @@
 //! Whether frames were seen exactly once.
 ghost use Rattle.std.specs.Prelude.{◌≡◌, List};
-ghost use Rattle.net_base.specs.declared.trace.entry.Entry.{Entry as Told};
-ghost use Rattle.net_base.specs.plan.Accepted.{IsWithinLimits};
+ghost use Rattle.net_base.specs.{declared.trace.entry.Entry.{Entry as Told}, plan.Accepted.{IsWithinLimits}};
 ghost use Rattle.seen_windows.specs.Verdict.{IsFirstOwed};
-ghost use Rattle.window_audit.specs.Exits.{HasExits};
-ghost use Rattle.window_audit.specs.Verdict.{AgreeOrDiffer, Judges, earlier};
+ghost use Rattle.window_audit.specs.{Exits.{HasExits}, Verdict.{AgreeOrDiffer, Judges, earlier}};
 
 use crate::exits::Exits;
 use hvpls_spokes::PortSet;

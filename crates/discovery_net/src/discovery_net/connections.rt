@@ -1,14 +1,11 @@
 //! Connections open over adjacencies.
 ghost use Rattle.std.specs.Prelude.{◌≡◌, ◌∷◌, [], false, length, OnOk};
-ghost use Rattle.net_base.specs.plan.Paths.{are_joined};
-ghost use Rattle.net_base.specs.plan.Planned.{IsEventOf};
+ghost use Rattle.net_base.specs.{plan.Paths.{are_joined}, plan.Planned.{IsEventOf}};
 ghost use Rattle.network_model.specs.Step.{step};
 ghost use Rattle.psn_net.specs.Lists.{network_seen};
 ghost use Rattle.command_run.specs.Going.{IsRunGoing};
 ghost use Rattle.discovery_script.specs.Planned.{AreOfPlan};
-ghost use Rattle.discovery_net.specs.Acts.{Does};
-ghost use Rattle.discovery_net.specs.Deeds.{Discovery, adjacency_lives};
-ghost use Rattle.discovery_net.specs.Lines.{acts_of, after_line, may_open};
+ghost use Rattle.discovery_net.specs.{Acts.{Does}, Deeds.{Discovery, adjacency_lives}, Lines.{acts_of, after_line, may_open}};
 ghost use Rattle.discovery_net.specs.Lists.{Acts, IsAt};
 
 use crate::discovery_net::DiscoveryNet;

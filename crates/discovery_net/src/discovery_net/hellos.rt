@@ -3,8 +3,7 @@ ghost use Rattle.std.specs.Prelude.{◌≡◌, ◌<◌, Some, true, false, optio
 ghost use Rattle.net_base.specs.plan.Paths.{are_joined};
 ghost use Rattle.command_run.specs.Going.{IsRunGoing};
 ghost use Rattle.discovery_script.specs.Planned.{AreOfPlan};
-ghost use Rattle.discovery_net.specs.Deeds.{Discovery, Hello, hello_numbered};
-ghost use Rattle.discovery_net.specs.Lines.{acts_of, after_line, bring_acts, heard_at};
+ghost use Rattle.discovery_net.specs.{Deeds.{Discovery, Hello, hello_numbered}, Lines.{acts_of, after_line, bring_acts, heard_at}};
 ghost use Rattle.discovery_net.specs.Lists.{Acts, IsAt, IsHelloFit, IsOfPlan, said_hello};
 
 use crate::discovery_net::DiscoveryNet;

@@ -6,9 +6,7 @@ ghost use Rattle.network_model.specs.State.{stands};
 ghost use Rattle.psn_net.specs.Lists.{network_seen};
 ghost use Rattle.command_run.specs.Going.{IsRunGoing};
 ghost use Rattle.discovery_script.specs.Planned.{AreOfPlan};
-ghost use Rattle.discovery_net.specs.Deeds.{Discovery};
-ghost use Rattle.discovery_net.specs.Lines.{acts_of, after_line, lapses_with};
-ghost use Rattle.discovery_net.specs.Lists.{Acts, Downs, IsAt};
+ghost use Rattle.discovery_net.specs.{Deeds.{Discovery}, Lines.{acts_of, after_line, lapses_with}, Lists.{Acts, Downs, IsAt}};
 
 use crate::discovery_net::DiscoveryNet;
 use discovery_script::{Note, ScriptLine};

@@ -2,12 +2,10 @@
 ghost use Rattle.std.specs.Prelude.{◌≡◌, ◌<◌, ◌++◌, ℕ, List, Some, None, Ok, Err, [], true, false, length, drop, IfOk, OnOk, option_copied};
 ghost use Rattle.net_values.specs.Octets.{AreOctets};
 ghost use Rattle.pw_messages.specs.LinkAnswers.{Agrees, Answers};
-ghost use Rattle.independent_mode.specs.Receiver.{IsTakenOut, IsReceiverWaiting, receiver_of, kept_after};
-ghost use Rattle.independent_model.specs.Hear.{hears_at, independent_hears_message, independent_hears_messages, hears_notice, independent_hears_status};
-ghost use Rattle.independent_mode.specs.Heard.{HearsTo};
+ghost use Rattle.independent_mode.specs.{Receiver.{IsTakenOut, IsReceiverWaiting, receiver_of, kept_after}, Heard.{HearsTo}};
 ghost use Rattle.independent_mode.specs.Lists.{KeepsIndependent, independent_seen};
-ghost use Rattle.independent_model.specs.State.{with_receiver, with_remote, without_remotes};
-ghost use Rattle.independent_model.specs.Wires.{is_between};
+ghost use Rattle.independent_model.specs.Hear.{hears_at, independent_hears_message, independent_hears_messages, hears_notice, independent_hears_status};
+ghost use Rattle.independent_model.specs.{State.{with_receiver, with_remote, without_remotes}, Wires.{is_between}};
 ghost use Rattle.independent_model.specs.Work.{Comes, CallsGoOn, NeverRefused};
 
 use crate::connection::PeerStream;

@@ -1,11 +1,10 @@
 //! What an edge keeps, one part a call.
 ghost use Rattle.std.specs.Prelude.{◌≡◌, ◌<◌, ◌&&◌, ℕ, Some, None, length, option_map, slice_get, IfSome, is_some};
-ghost use Rattle.status_exchange.specs.Wish.{is_wished_active};
-ghost use Rattle.status_exchange.specs.Laws.{is_known_active};
+ghost use Rattle.status_exchange.specs.{Wish.{is_wished_active}, Laws.{is_known_active}};
 ghost use Rattle.independent_model.specs.Calls.{is_connected, uses_with};
-ghost use Rattle.independent_mode.specs.Lists.{KeepsIndependent, independent_seen};
 ghost use Rattle.independent_model.specs.State.{id_next, spoken_once, with_connection, with_local, with_remote};
 ghost use Rattle.independent_model.specs.Wires.{is_between, is_row_between, other_end, wire_named};
+ghost use Rattle.independent_mode.specs.Lists.{KeepsIndependent, independent_seen};
 
 use crate::connection::Connection;
 use crate::wires::{joins_two, other_of_two, wire_with};

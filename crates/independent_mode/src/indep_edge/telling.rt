@@ -2,12 +2,10 @@
 ghost use Rattle.std.specs.Prelude.{◌≡◌, ◌<◌, ℕ, Some, None, Ok, Err, length, slice_get, IfOk};
 ghost use Rattle.net_base.specs.declared.plan.wire_plan.WirePlan.{WirePlan};
 ghost use Rattle.pw_messages.specs.LinkAnswers.{Agrees, Answers};
-ghost use Rattle.independent_model.specs.Calls.{tells_other};
-ghost use Rattle.independent_mode.specs.Lists.{KeepsIndependent, independent_seen};
-ghost use Rattle.independent_model.specs.State.{ConnectionState, spoken_once, with_connection};
-ghost use Rattle.independent_model.specs.Tell.{octets_on, tells, tells_from, tells_place};
-ghost use Rattle.independent_model.specs.Wires.{other_end};
+ghost use Rattle.independent_model.specs.{Calls.{tells_other}, State.{ConnectionState, spoken_once, with_connection}};
+ghost use Rattle.independent_model.specs.{Tell.{octets_on, tells, tells_from, tells_place}, Wires.{other_end}};
 ghost use Rattle.independent_model.specs.Work.{Comes, CallsGoOn, IsPutOnLink, NeverRefused};
+ghost use Rattle.independent_mode.specs.Lists.{KeepsIndependent, independent_seen};
 
 use crate::notification::notification_octets;
 use crate::{IndepEdge, IndepStop};

@@ -8,9 +8,7 @@ use net_values::{Label, put};
 /// Generic Label (RFC 5036 section 3.4.2.1).
 impl TlvValue for Label {
     ghost use Rattle.net_values.specs.declared.field.Field.TheVariants as field;
-    ghost use Rattle.ldp_grammar.specs.Octets.{four};
-    ghost use Rattle.ldp_grammar.specs.Rows.{label};
-    ghost use Rattle.ldp_grammar.specs.Values.{IsNumber};
+    ghost use Rattle.ldp_grammar.specs.{Octets.{four}, Rows.{label}, Values.{IsNumber}};
 
     ghost number = { label };
 

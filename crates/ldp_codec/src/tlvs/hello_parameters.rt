@@ -20,9 +20,7 @@ pub struct HelloParams {
 /// Common Hello Parameters (RFC 5036 section 3.5.2).
 impl TlvValue for HelloParams {
     ghost use Rattle.net_values.specs.declared.field.Field.TheVariants as field;
-    ghost use Rattle.ldp_grammar.specs.Rows.{hello_parameters};
-    ghost use Rattle.ldp_grammar.specs.Values.{IsHello};
-    ghost use Rattle.ldp_grammar.specs.Written.{hello_parameters_octets};
+    ghost use Rattle.ldp_grammar.specs.{Rows.{hello_parameters}, Values.{IsHello}, Written.{hello_parameters_octets}};
 
     ghost number = { hello_parameters };
 

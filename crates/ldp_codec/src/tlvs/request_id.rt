@@ -13,9 +13,7 @@ pub struct RequestId(pub u32);
 /// Label Request Message ID (RFC 5036 section 3.5.9).
 impl TlvValue for RequestId {
     ghost use Rattle.net_values.specs.declared.field.Field.TheVariants as field;
-    ghost use Rattle.ldp_grammar.specs.Octets.{four};
-    ghost use Rattle.ldp_grammar.specs.Rows.{request_id};
-    ghost use Rattle.ldp_grammar.specs.Values.{IsNumber};
+    ghost use Rattle.ldp_grammar.specs.{Octets.{four}, Rows.{request_id}, Values.{IsNumber}};
 
     ghost number = { request_id };
 

@@ -14,9 +14,7 @@ use net_values::put;
 impl TlvValue for StatusCode {
     ghost use Rattle.std.specs.Prelude.{◌<◌, ◌^◌};
     ghost use Rattle.net_values.specs.declared.field.Field.TheVariants as field;
-    ghost use Rattle.ldp_grammar.specs.Rows.{status};
-    ghost use Rattle.ldp_grammar.specs.Values.{IsStatus};
-    ghost use Rattle.ldp_grammar.specs.Written.{status_octets};
+    ghost use Rattle.ldp_grammar.specs.{Rows.{status}, Values.{IsStatus}, Written.{status_octets}};
 
     ghost number = { status };
 

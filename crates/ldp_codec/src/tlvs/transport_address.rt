@@ -7,8 +7,7 @@ use net_values::{Addr, put};
 /// IPv4 Transport Address (RFC 5036 section 3.5.2).
 impl TlvValue for Addr {
     ghost use Rattle.net_values.specs.declared.field.Field.TheVariants as field;
-    ghost use Rattle.ldp_grammar.specs.Rows.{transport_address};
-    ghost use Rattle.ldp_grammar.specs.Values.{IsTransportAddress};
+    ghost use Rattle.ldp_grammar.specs.{Rows.{transport_address}, Values.{IsTransportAddress}};
 
     ghost number = { transport_address };
 

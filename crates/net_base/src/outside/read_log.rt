@@ -1,6 +1,5 @@
 //! The reads that a shelf was asked for. They exist in proofs alone.
-ghost use Rattle.std.specs.Prelude.{◌≡◌, ◌++◌, ◌∷◌, [], List};
-ghost use Rattle.std.specs.Borrow.{ftrue};
+ghost use Rattle.std.specs.{Prelude.{◌≡◌, ◌++◌, ◌∷◌, [], List}, Borrow.{ftrue}};
 ghost use Rattle.net_base.specs.outside.Outside.{ReadCall};
 
 use crate::outside::read::Read;

@@ -1,7 +1,6 @@
 //! Marks that wires leave, by which most wires are seen to break no rule with an earlier one without a walk over those.
 ghost use Rattle.std.specs.Prelude.{◌≡◌, ◌<◌, length, if◌then◌else◌};
-ghost use Rattle.net_base.specs.plan.Paths.{first_edge};
-ghost use Rattle.net_base.specs.plan.Places.{is_mesh_class};
+ghost use Rattle.net_base.specs.{plan.Paths.{first_edge}, plan.Places.{is_mesh_class}};
 ghost use Rattle.net_base.specs.plan.WireMarks.{edge_number, pw_id_mark, pair_mark, end_mark, start_mark, ends_mark, left_first, left_last, asked_first, asked_last, is_wire_marked, marks_with};
 
 use crate::plan::paths::{first_of, last_of};

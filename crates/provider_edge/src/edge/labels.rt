@@ -1,11 +1,8 @@
 //! The labels of an edge.
-ghost use Rattle.std.specs.Prelude.{◌≡◌, ℕ, option_map};
-ghost use Rattle.std.specs.List.{find};
+ghost use Rattle.std.specs.{Prelude.{◌≡◌, ℕ, option_map}, List.{find}};
 ghost use Rattle.label_space.specs.Labels.{owner_of};
-ghost use Rattle.edge_model.specs.EndPlaces.{end_places};
-ghost use Rattle.edge_model.specs.State.{end_at};
-ghost use Rattle.pw_ends.specs.Ends.{owns_label};
-ghost use Rattle.pw_ends.specs.Kept.{segment_of};
+ghost use Rattle.edge_model.specs.{EndPlaces.{end_places}, State.{end_at}};
+ghost use Rattle.pw_ends.specs.{Ends.{owns_label}, Kept.{segment_of}};
 ghost use Rattle.provider_edge.specs.Lists.{seen};
 
 use crate::Edge;

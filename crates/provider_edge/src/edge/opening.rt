@@ -4,10 +4,8 @@ ghost use Rattle.net_base.specs.plan.Accepted.{IsChecked};
 ghost use Rattle.pw_signalling.specs.End.{fresh};
 ghost use Rattle.pw_ends.specs.Ends.{seen_ends};
 ghost use Rattle.edge_forwarding.specs.Forwarding.{IsNewForwarding};
-ghost use Rattle.edge_model.specs.EndPlaces.{end_places};
-ghost use Rattle.edge_model.specs.State.{first_label};
-ghost use Rattle.provider_edge.specs.Opening.{IsNewEdge};
-ghost use Rattle.provider_edge.specs.Spokes.{IsNewSpokes};
+ghost use Rattle.edge_model.specs.{EndPlaces.{end_places}, State.{first_label}};
+ghost use Rattle.provider_edge.specs.{Opening.{IsNewEdge}, Spokes.{IsNewSpokes}};
 
 use crate::Edge;
 use crate::pings::first_pings;

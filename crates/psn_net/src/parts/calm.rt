@@ -2,8 +2,7 @@
 ghost use Rattle.std.specs.Prelude.{◌≡◌};
 ghost use Rattle.net_base.specs.plan.Roles.{is_spoke_edge};
 ghost use Rattle.network_model.specs.Calm.{has_live_spokes, is_calm};
-ghost use Rattle.psn_net.specs.Calm.{has_live_spoke};
-ghost use Rattle.psn_net.specs.Lists.{network_seen};
+ghost use Rattle.psn_net.specs.{Calm.{has_live_spoke}, Lists.{network_seen}};
 
 use crate::parts::Parts;
 use hvpls_spokes::{Role, role, starts_spoke};

@@ -1,14 +1,10 @@
 //! Which wires carry frames.
-ghost use Rattle.std.specs.Prelude.{◌≡◌, ◌<◌, Some, true, length, slice_get, IfSome};
-ghost use Rattle.std.specs.List.{list_all};
-ghost use Rattle.net_base.specs.plan.Accepted.{IsChecked};
-ghost use Rattle.net_base.specs.plan.RowFaults.{is_edge_of};
+ghost use Rattle.std.specs.{Prelude.{◌≡◌, ◌<◌, Some, true, length, slice_get, IfSome}, List.{list_all}};
+ghost use Rattle.net_base.specs.{plan.Accepted.{IsChecked}, plan.RowFaults.{is_edge_of}};
 ghost use Rattle.edge_model.specs.Ends.{end_forwards, is_stitched, is_up};
 ghost use Rattle.provider_edge.specs.Lists.{seen as seen_edge};
-ghost use Rattle.network_model.specs.Calm.{carries, inner_stitched, is_joined_up};
-ghost use Rattle.network_model.specs.State.{edge_at};
-ghost use Rattle.psn_net.specs.Carrying.{forwards_if};
-ghost use Rattle.psn_net.specs.Lists.{network_seen};
+ghost use Rattle.network_model.specs.{Calm.{carries, inner_stitched, is_joined_up}, State.{edge_at}};
+ghost use Rattle.psn_net.specs.{Carrying.{forwards_if}, Lists.{network_seen}};
 
 use crate::parts::Parts;
 use hvpls_spokes::is_terminal;

@@ -2,9 +2,7 @@
 ghost use Rattle.std.specs.Prelude.{◌≡◌, ◌<◌, ◌≤◌, ◌+◌, Some, length, IfOk, OnOk};
 ghost use Rattle.net_base.specs.plan.Places.{circuit_row};
 ghost use Rattle.edge_model.specs.Step.{edge_step};
-ghost use Rattle.network_model.specs.Absorb.{absorb, begin_at, taken_all};
-ghost use Rattle.network_model.specs.Frame.{frame_event};
-ghost use Rattle.network_model.specs.State.{with_frame};
+ghost use Rattle.network_model.specs.{Absorb.{absorb, begin_at, taken_all}, Frame.{frame_event}, State.{with_frame}};
 ghost use Rattle.network_model.specs.Tick.{tick_event, ticks_from};
 ghost use Rattle.provider_edge.specs.Taking.{IsInRange};
 ghost use Rattle.psn_net.specs.Lists.{HasAnswered, HasEntered, HasRoom, HasStepped, KeepsNetwork, edge_of, network_seen};

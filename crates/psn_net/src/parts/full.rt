@@ -2,8 +2,7 @@
 ghost use Rattle.std.specs.Prelude.{◌≡◌, ◌<◌, length};
 ghost use Rattle.net_base.specs.plan.Roles.{all_below, is_core_edge};
 ghost use Rattle.network_model.specs.Calm.{is_full};
-ghost use Rattle.psn_net.specs.Calm.{is_full_between};
-ghost use Rattle.psn_net.specs.Lists.{network_seen};
+ghost use Rattle.psn_net.specs.{Calm.{is_full_between}, Lists.{network_seen}};
 
 use crate::parts::Parts;
 use hvpls_spokes::{Role, is_mesh_between, role};

@@ -1,8 +1,7 @@
 //! What stands, and what may be delivered.
 ghost use Rattle.std.specs.Prelude.{◌≡◌, ◌==◌, ◌<◌, ◌≤◌, ◌&&◌, ◌||◌, not, true, false, length, IfSome};
 ghost use Rattle.net_base.specs.plan.Accepted.{IsChecked};
-ghost use Rattle.network_model.specs.Connection.{can_connect, is_deliverable, is_drained_pipe};
-ghost use Rattle.network_model.specs.Delivery.{first_from, first_pair};
+ghost use Rattle.network_model.specs.{Connection.{can_connect, is_deliverable, is_drained_pipe}, Delivery.{first_from, first_pair}};
 ghost use Rattle.network_model.specs.State.{stands};
 ghost use Rattle.psn_net.specs.Lists.{network_seen};
 

@@ -1,9 +1,7 @@
 //! Packets under way: one reaches its edge, is lost, or is repeated, and each grows older.
-ghost use Rattle.std.specs.Prelude.{◌≡◌, ◌<◌, ◌+◌, None, option_map, length, IfOk, IfSome, OnOk};
-ghost use Rattle.std.specs.List.{find};
+ghost use Rattle.std.specs.{Prelude.{◌≡◌, ◌<◌, ◌+◌, None, option_map, length, IfOk, IfSome, OnOk}, List.{find}};
 ghost use Rattle.net_base.specs.plan.Planned.{IsEventOf};
-ghost use Rattle.network_model.specs.Age.{ageing};
-ghost use Rattle.network_model.specs.Packet.{again_event, arrive_event, discard_event, next_arrival, packet_at};
+ghost use Rattle.network_model.specs.{Age.{ageing}, Packet.{again_event, arrive_event, discard_event, next_arrival, packet_at}};
 ghost use Rattle.network_model.specs.State.{with_older, without_number, without_packet};
 ghost use Rattle.psn_net.specs.Lists.{HasRoom, HasStepped, KeepsNetwork, copied, network_seen};
 ghost use Rattle.psn_net.specs.Packets.{IsPacketOf, is_aged, number_of, without_aged};

@@ -1,11 +1,8 @@
 //! Which services are quiet.
-ghost use Rattle.std.specs.Prelude.{◌≡◌, ◌==◌, ◌&&◌, ◌<◌, length};
-ghost use Rattle.std.specs.List.{list_any};
-ghost use Rattle.net_base.specs.plan.Paths.{joins};
-ghost use Rattle.net_base.specs.plan.Roles.{all_below, is_wire_of};
+ghost use Rattle.std.specs.{Prelude.{◌≡◌, ◌==◌, ◌&&◌, ◌<◌, length}, List.{list_any}};
+ghost use Rattle.net_base.specs.{plan.Paths.{joins}, plan.Roles.{all_below, is_wire_of}};
 ghost use Rattle.network_model.specs.Calm.{is_drained, is_quiet};
-ghost use Rattle.psn_net.specs.Calm.{is_quiet_between};
-ghost use Rattle.psn_net.specs.Lists.{network_seen};
+ghost use Rattle.psn_net.specs.{Calm.{is_quiet_between}, Lists.{network_seen}};
 
 use crate::parts::Parts;
 use net_base::{EdgeId, ServiceId, WirePlan};

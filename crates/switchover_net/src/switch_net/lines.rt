@@ -2,8 +2,7 @@
 ghost use Rattle.std.specs.Prelude.{◌≡◌, ◌<◌, ◌==◌, Some, true, false, length, take, IfOk, OnOk};
 ghost use Rattle.independent_model.specs.Wires.{is_between, other_end};
 ghost use Rattle.switchover_model.specs.Network.{switch_connecting, cutting, switch_delivers, does, done, is_line_idle, settling, some_between, SwitchState};
-ghost use Rattle.switchover_model.specs.Text.{deliver_entries, entries, line_entries, settle_entries};
-ghost use Rattle.switchover_model.specs.Planned.{IsLineOf};
+ghost use Rattle.switchover_model.specs.{Text.{deliver_entries, entries, line_entries, settle_entries}, Planned.{IsLineOf}};
 ghost use Rattle.switchover_net.specs.Net.{IsReached, Makes, ShowsSwitchState, cut_entries, pair_entries};
 
 use crate::SwitchNet;

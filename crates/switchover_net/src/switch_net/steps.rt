@@ -1,14 +1,11 @@
 //! The steps of a line.
 ghost use Rattle.std.specs.Prelude.{◌≡◌, ◌<◌, ◌++◌, [], Some, true, length, drop, take, IfOk, OnOk};
-ghost use Rattle.independent_model.specs.Calls.{independent_hears};
-ghost use Rattle.independent_model.specs.Wires.{other_end};
+ghost use Rattle.independent_model.specs.{Calls.{independent_hears}, Wires.{other_end}};
 ghost use Rattle.status_exchange.specs.Exchange.{at_two};
 ghost use Rattle.switchover_model.specs.Network.{IsGoing, connects_one, delivers_one, is_waiting, loses_one, setting, takes_all};
 ghost use Rattle.switchover_model.specs.Text.{connect_entries, hear_entries, lose_entries, said_entries, set_entries, turned_switch, turned_all, used as used_by};
-ghost use Rattle.switchover_net.specs.Net.{IsReached, Makes};
+ghost use Rattle.switchover_net.specs.{Net.{IsReached, Makes}, Pipes.{bytes_of}, Rows.{HasDoneWork, seen_row}};
 ghost use Rattle.octet_pipes.specs.Pipes.{pipes_of};
-ghost use Rattle.switchover_net.specs.Pipes.{bytes_of};
-ghost use Rattle.switchover_net.specs.Rows.{HasDoneWork, seen_row};
 
 use crate::SwitchNet;
 use crate::waiting::{is_waiting, put_all};

@@ -1,13 +1,10 @@
 //! A circuit is turned on or off.
 ghost use Rattle.std.specs.Prelude.{◌≡◌, [], Some, true, false, OnOk};
-ghost use Rattle.net_base.specs.declared.plan.circuit_plan.CircuitPlan.{CircuitPlan};
-ghost use Rattle.net_base.specs.plan.Places.{circuit_row};
+ghost use Rattle.net_base.specs.{declared.plan.circuit_plan.CircuitPlan.{CircuitPlan}, plan.Places.{circuit_row}};
 ghost use Rattle.pw_messages.specs.LinkAnswers.{Agrees, Answers};
-ghost use Rattle.edge_model.specs.Circuit.{circuit_input, turned};
-ghost use Rattle.edge_model.specs.Work.{beginning};
+ghost use Rattle.edge_model.specs.{Circuit.{circuit_input, turned}, Work.{beginning}};
 ghost use Rattle.edge_forwarding.specs.Forwarding.{own_service};
-ghost use Rattle.provider_edge.specs.AtWork.{Takes, worked_at};
-ghost use Rattle.provider_edge.specs.Lists.{Keeps, seen};
+ghost use Rattle.provider_edge.specs.{AtWork.{Takes, worked_at}, Lists.{Keeps, seen}};
 
 use crate::Edge;
 use net_base::{CircuitId, Link, NoMemory, ServiceId};

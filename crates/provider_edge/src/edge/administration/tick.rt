@@ -2,13 +2,9 @@
 ghost use Rattle.std.specs.Prelude.{◌≡◌, ◌<◌, [], true, false, length, OnOk};
 ghost use Rattle.session_core.specs.Table.{Ticked};
 ghost use Rattle.pw_messages.specs.LinkAnswers.{Agrees, Answers};
-ghost use Rattle.edge_model.specs.Labels.{resting};
-ghost use Rattle.edge_model.specs.Session.{happens_with_ends, losing_ends};
-ghost use Rattle.edge_model.specs.State.{has_end};
-ghost use Rattle.edge_model.specs.Tick.{tick_input, ticks_sessions};
-ghost use Rattle.edge_model.specs.Work.{beginning};
-ghost use Rattle.provider_edge.specs.AtWork.{Takes, Works, at_work, worked_at};
-ghost use Rattle.provider_edge.specs.Lists.{Keeps, seen};
+ghost use Rattle.edge_model.specs.{Labels.{resting}, Session.{happens_with_ends, losing_ends}, State.{has_end}};
+ghost use Rattle.edge_model.specs.{Tick.{tick_input, ticks_sessions}, Work.{beginning}};
+ghost use Rattle.provider_edge.specs.{AtWork.{Takes, Works, at_work, worked_at}, Lists.{Keeps, seen}};
 
 use crate::Edge;
 use net_base::{EdgeId, Link, NoMemory};

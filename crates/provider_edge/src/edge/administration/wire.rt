@@ -1,12 +1,9 @@
 //! A wire is put on or off, and the failure bits of the edge's end of it and the priority of a spoke are set.
 ghost use Rattle.pw_messages.specs.LinkAnswers.{Agrees, Answers};
-ghost use Rattle.edge_model.specs.EndPlaces.{ends_here, passes};
+ghost use Rattle.edge_model.specs.{EndPlaces.{ends_here, passes}, State.{with_bits}};
+ghost use Rattle.edge_model.specs.{Wire.{priority_input, status_input, turned_wire, wire_input}, Work.{beginning}};
 ghost use Rattle.std.specs.Prelude.{◌≡◌, ◌<◌, ◌≤◌, [], true, false, length, OnOk};
-ghost use Rattle.edge_model.specs.State.{with_bits};
-ghost use Rattle.edge_model.specs.Wire.{priority_input, status_input, turned_wire, wire_input};
-ghost use Rattle.edge_model.specs.Work.{beginning};
-ghost use Rattle.provider_edge.specs.AtWork.{Takes, worked_at};
-ghost use Rattle.provider_edge.specs.Lists.{Keeps, seen};
+ghost use Rattle.provider_edge.specs.{AtWork.{Takes, worked_at}, Lists.{Keeps, seen}};
 
 use crate::Edge;
 use net_base::{Link, NoMemory, WireId};

@@ -3,19 +3,14 @@ ghost use Rattle.std.specs.Prelude.{◌≡◌, ◌≤◌, ◌<◌, ◌+◌, ◌+
 ghost use Rattle.net_base.specs.declared.trace.drop_cause.DropCause.{DropCause as Cause};
 ghost use Rattle.pw_messages.specs.LinkAnswers.{Agrees, Answers};
 ghost use Rattle.eth_encap.specs.Fault.{cause_of};
-ghost use Rattle.hvpls_spokes.specs.Port.{ports_of};
-ghost use Rattle.hvpls_spokes.specs.PortSet.{holds_port};
-ghost use Rattle.edge_model.specs.declared.effect.Effect.TheVariants.{Left};
-ghost use Rattle.edge_model.specs.Ends.{wire_end};
-ghost use Rattle.edge_model.specs.Frame.{copies, copy_by, forwarded, hearing, received, targets_of};
-ghost use Rattle.edge_model.specs.Send.{sends, sends_copy};
+ghost use Rattle.hvpls_spokes.specs.{Port.{ports_of}, PortSet.{holds_port}};
+ghost use Rattle.edge_model.specs.{declared.effect.Effect.TheVariants.{Left}, Ends.{wire_end}};
+ghost use Rattle.edge_model.specs.{Frame.{copies, copy_by, forwarded, hearing, received, targets_of}, Send.{sends, sends_copy}};
 ghost use Rattle.edge_model.specs.Synced.{InSync};
 ghost use Rattle.pw_ends.specs.Ends.{end_in, place_of};
 ghost use Rattle.edge_forwarding.specs.Forwarding.{open_ports};
-ghost use Rattle.provider_edge.specs.Taking.{copied_by};
+ghost use Rattle.provider_edge.specs.{Taking.{copied_by}, AtWork.{Works, at_work}, Lists.{Keeps, seen}};
 ghost use Rattle.peer_dialogue.specs.AtWork.{WorkGoes};
-ghost use Rattle.provider_edge.specs.AtWork.{Works, at_work};
-ghost use Rattle.provider_edge.specs.Lists.{Keeps, seen};
 
 use crate::Edge;
 use crate::egress::Egress;

@@ -2,13 +2,9 @@
 ghost use Rattle.std.specs.Prelude.{◌≡◌, ◌==◌, [], Result, Ok, Some, true, false, OnOk};
 ghost use Rattle.net_base.specs.plan.Places.{circuit_row};
 ghost use Rattle.pw_messages.specs.LinkAnswers.{Agrees, Answers};
-ghost use Rattle.edge_model.specs.Frame.{frame_input};
-ghost use Rattle.edge_model.specs.State.{is_on};
-ghost use Rattle.edge_model.specs.Synced.{InSync};
-ghost use Rattle.edge_model.specs.Work.{beginning};
+ghost use Rattle.edge_model.specs.{Frame.{frame_input}, State.{is_on}, Synced.{InSync}, Work.{beginning}};
 ghost use Rattle.edge_forwarding.specs.Forwarding.{own_service};
-ghost use Rattle.provider_edge.specs.AtWork.{Takes, worked_at};
-ghost use Rattle.provider_edge.specs.Lists.{seen};
+ghost use Rattle.provider_edge.specs.{AtWork.{Takes, worked_at}, Lists.{seen}};
 
 use crate::Edge;
 use crate::ingress::Ingress;

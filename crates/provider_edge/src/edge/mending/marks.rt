@@ -1,9 +1,7 @@
 //! The ends that the edge visits as it mends. Each change marks those that it can unsettle: the ends of its wire, those of the wires beside a
 //! peer, or the spokes of a service. Where the edge knows no marks it visits each end.
-ghost use Rattle.std.specs.Prelude.{◌≡◌, ◌≤◌, ◌<◌, ℕ, length, true, false, IfSome};
-ghost use Rattle.std.specs.List.{list_all};
-ghost use Rattle.provider_edge.specs.Marks.{Marked, MarksBeside, MarksEach, MarksWire, is_unmarked};
-ghost use Rattle.provider_edge.specs.Lists.{Keeps, seen};
+ghost use Rattle.std.specs.{Prelude.{◌≡◌, ◌≤◌, ◌<◌, ℕ, length, true, false, IfSome}, List.{list_all}};
+ghost use Rattle.provider_edge.specs.{Marks.{Marked, MarksBeside, MarksEach, MarksWire, is_unmarked}, Lists.{Keeps, seen}};
 ghost use Rattle.provider_edge.specs.Spokes.{starts_spoke};
 ghost use Rattle.provider_edge.specs.Tidy.{HasChosenFor, IsSettledAt, IsTidy, IsTidyApart, IsTidyBesides, MendsNothing};
 

@@ -6,8 +6,7 @@ ghost use Rattle.edge_model.specs.EndPlaces.{end_places};
 ghost use Rattle.edge_model.specs.Mend.{each_end, forgets_downs, mends, mends_choice, mends_end, mends_once, mends_status, tells_downs};
 ghost use Rattle.edge_forwarding.specs.Views.{view};
 ghost use Rattle.peer_dialogue.specs.Peering.{at_edge};
-ghost use Rattle.provider_edge.specs.AtWork.{Works, at_work};
-ghost use Rattle.provider_edge.specs.Lists.{Keeps, seen};
+ghost use Rattle.provider_edge.specs.{AtWork.{Works, at_work}, Lists.{Keeps, seen}};
 
 use crate::Edge;
 use crate::end_marks::EndMarks;

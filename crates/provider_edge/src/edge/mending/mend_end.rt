@@ -1,19 +1,15 @@
 //! One end is mended: what it tells follows what it should tell by now (RFC 8077 sections 6 and 6.3).
 ghost use Rattle.std.specs.Prelude.{◌≡◌, ◌<◌, ◌≤◌, List, length, None, true, IfOk, OnOk};
-ghost use Rattle.net_base.specs.declared.outside.link_call.LinkCall.{LinkCall};
-ghost use Rattle.net_base.specs.plan.Places.{wire_row};
+ghost use Rattle.net_base.specs.{declared.outside.link_call.LinkCall.{LinkCall}, plan.Places.{wire_row}};
 ghost use Rattle.pw_messages.specs.LinkAnswers.{Agrees, Answers};
 ghost use Rattle.edge_model.specs.declared.end_place.EndPlace.{EndPlace};
+ghost use Rattle.edge_model.specs.Mend.{advertises_wish, forgetting_wire, is_new_choice, mends_choice, mends_end, mends_status, offer_stands, tells_down, wish};
+ghost use Rattle.edge_model.specs.{Role.{down_at, is_chosen_wire, role_at}, State.{with_told_down}};
 ghost use Rattle.pw_signalling.specs.AnyEnd.{end_of};
 ghost use Rattle.pw_ends.specs.Ends.{HasKind, Holds, IsIdle, end_in, place_of};
-ghost use Rattle.edge_model.specs.Mend.{advertises_wish, forgetting_wire, is_new_choice, mends_choice, mends_end, mends_status, offer_stands, tells_down, wish};
-ghost use Rattle.edge_model.specs.Role.{down_at, is_chosen_wire, role_at};
-ghost use Rattle.edge_model.specs.State.{with_told_down};
-ghost use Rattle.provider_edge.specs.Mending.{forgotten_down, mended_down};
+ghost use Rattle.provider_edge.specs.{Mending.{forgotten_down, mended_down}, AtWork.{Works, at_work}, Lists.{Keeps, seen}};
 ghost use Rattle.edge_forwarding.specs.Views.{view};
 ghost use Rattle.peer_dialogue.specs.Peering.{at_edge};
-ghost use Rattle.provider_edge.specs.AtWork.{Works, at_work};
-ghost use Rattle.provider_edge.specs.Lists.{Keeps, seen};
 
 use crate::Edge;
 use crate::edge::packets::stitched::has_told;

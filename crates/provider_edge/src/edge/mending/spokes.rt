@@ -1,14 +1,11 @@
 //! A spoke edge chooses among its spokes (RFC 6870, RFC 4762 section 10.2.1).
 ghost use Rattle.std.specs.Prelude.{◌≡◌, ◌<◌, ◌≤◌, ℕ, Some, None, true, length, IfOk, OnOk};
 ghost use Rattle.net_base.specs.plan.Places.{wire_row};
-ghost use Rattle.edge_model.specs.EndPlaces.{end_places};
-ghost use Rattle.edge_model.specs.Spokes.{choice, choosing, spoke_at, spokes_of};
-ghost use Rattle.edge_model.specs.State.{put_at, with_chosen, with_priority};
-ghost use Rattle.edge_model.specs.Wire.{is_own_spoke};
+ghost use Rattle.edge_model.specs.{EndPlaces.{end_places}, Spokes.{choice, choosing, spoke_at, spokes_of}};
+ghost use Rattle.edge_model.specs.{State.{put_at, with_chosen, with_priority}, Wire.{is_own_spoke}};
 ghost use Rattle.pw_ends.specs.Ends.{place_of};
-ghost use Rattle.provider_edge.specs.Spokes.{slots_for};
+ghost use Rattle.provider_edge.specs.{Spokes.{slots_for}, Lists.{Keeps, seen}};
 ghost use Rattle.edge_forwarding.specs.Views.{view};
-ghost use Rattle.provider_edge.specs.Lists.{Keeps, seen};
 
 use crate::Edge;
 use crate::spokes::is_own_spoke;

@@ -1,14 +1,11 @@
 //! What an end should tell (RFC 8077 sections 6 and 6.3): a terminal end of itself, and a switching point what it has from its
 //! other side (RFC 6073 section 7).
 ghost use Rattle.std.specs.Prelude.{◌≡◌, ◌<◌, ◌≤◌, length, is_some, Some, true, false, IfSome};
-ghost use Rattle.net_base.specs.plan.Paths.{offer_of};
-ghost use Rattle.net_base.specs.plan.Places.{wire_row};
+ghost use Rattle.net_base.specs.{plan.Paths.{offer_of}, plan.Places.{wire_row}};
 ghost use Rattle.pw_tlvs.specs.Written.{has_vlan};
 ghost use Rattle.pw_ends.specs.Ends.{place_of};
-ghost use Rattle.edge_model.specs.Mend.{passed_wish, terminal_wish, wish};
-ghost use Rattle.edge_model.specs.Role.{status_to_tell};
-ghost use Rattle.provider_edge.specs.Mending.{may_tell_end};
-ghost use Rattle.provider_edge.specs.Lists.{seen};
+ghost use Rattle.edge_model.specs.{Mend.{passed_wish, terminal_wish, wish}, Role.{status_to_tell}};
+ghost use Rattle.provider_edge.specs.{Mending.{may_tell_end}, Lists.{seen}};
 
 use crate::Edge;
 use edge_model::EndPlace;

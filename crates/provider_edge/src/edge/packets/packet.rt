@@ -1,25 +1,19 @@
 //! A packet comes from a neighbour (RFC 3032 section 2.1, RFC 4448 section 4, RFC 5085 section 5): the first step that applies
 //! decides.
 ghost use Rattle.std.specs.Prelude.{◌≡◌, ◌==◌, ◌&&◌, ◌≤◌, ◌<◌, ◌+◌, ◌++◌, Some, Ok, Err, true, length, option_map, position, is_some, IfOk, IfSome, OnOk, MatchResult};
-ghost use Rattle.net_base.specs.declared.plan.wire_plan.WirePlan.{WirePlan};
-ghost use Rattle.net_base.specs.plan.Paths.{offer_of};
-ghost use Rattle.net_base.specs.plan.Places.{mtu_of, wire_row};
+ghost use Rattle.net_base.specs.{declared.plan.wire_plan.WirePlan.{WirePlan}, plan.Paths.{offer_of}, plan.Places.{mtu_of, wire_row}};
 ghost use Rattle.pw_messages.specs.LinkAnswers.{Agrees, Answers};
-ghost use Rattle.eth_encap.specs.Fault.{cause_of};
-ghost use Rattle.eth_encap.specs.Packet.{entry_of};
+ghost use Rattle.eth_encap.specs.{Fault.{cause_of}, Packet.{entry_of}};
 ghost use Rattle.hvpls_spokes.specs.Port.{is_wire_port, ports_of};
 ghost use Rattle.vccv_channel.specs.declared.cc.Cc.TheVariants.{Expiry};
-ghost use Rattle.edge_model.specs.Echo.{is_picked};
-ghost use Rattle.edge_model.specs.Ends.{is_up};
+ghost use Rattle.edge_model.specs.{Echo.{is_picked}, Ends.{is_up}};
 ghost use Rattle.edge_model.specs.Packet.{advertiser, alerted, by_control_word, enters, is_alert, is_channel, labelled, packet_input, terminated, unpacked_at};
-ghost use Rattle.edge_model.specs.Role.{down_at};
-ghost use Rattle.edge_model.specs.Synced.{InSync};
+ghost use Rattle.edge_model.specs.{Role.{down_at}, Synced.{InSync}};
 ghost use Rattle.pw_ends.specs.Ends.{end_in, place_of};
 ghost use Rattle.edge_forwarding.specs.Forwarding.{open_ports};
 ghost use Rattle.peer_dialogue.specs.AtWork.{WorkGoes};
 ghost use Rattle.pw_signalling.specs.declared.binding.Binding.{Binding as Bound};
-ghost use Rattle.provider_edge.specs.AtWork.{Works, at_work};
-ghost use Rattle.provider_edge.specs.Lists.{seen};
+ghost use Rattle.provider_edge.specs.{AtWork.{Works, at_work}, Lists.{seen}};
 
 use crate::Edge;
 use crate::edge::packets::verify::is_picked;

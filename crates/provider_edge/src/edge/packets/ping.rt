@@ -1,15 +1,11 @@
 //! An edge pings the far end of a wire (RFC 5085 sections 3 and 5).
 ghost use Rattle.std.specs.Prelude.{◌≡◌, ◌<◌, [], Some, true, false, length, IfOk, OnOk};
-ghost use Rattle.net_base.specs.declared.plan.wire_plan.WirePlan.{WirePlan};
-ghost use Rattle.net_base.specs.plan.Places.{wire_row};
+ghost use Rattle.net_base.specs.{declared.plan.wire_plan.WirePlan.{WirePlan}, plan.Places.{wire_row}};
 ghost use Rattle.pw_messages.specs.LinkAnswers.{Agrees, Answers};
 ghost use Rattle.pw_ends.specs.Ends.{place_of};
-ghost use Rattle.edge_model.specs.Echo.{ping_number};
-ghost use Rattle.edge_model.specs.Ping.{far_address, far_terminal, following_ping, ping_input, pinging};
+ghost use Rattle.edge_model.specs.{Echo.{ping_number}, Ping.{far_address, far_terminal, following_ping, ping_input, pinging}};
 ghost use Rattle.edge_model.specs.Work.{beginning};
-ghost use Rattle.provider_edge.specs.AtWork.{Takes, worked_at};
-ghost use Rattle.provider_edge.specs.Lists.{Keeps, seen};
-ghost use Rattle.provider_edge.specs.Pings.{ping_of, request_of};
+ghost use Rattle.provider_edge.specs.{AtWork.{Takes, worked_at}, Lists.{Keeps, seen}, Pings.{ping_of, request_of}};
 
 use crate::Edge;
 use crate::echo::request_under;

@@ -1,8 +1,7 @@
 //! A switching point passes a packet on to its other neighbour on the wire (RFC 6073 section 4).
 ghost use Rattle.std.specs.Prelude.{◌≡◌, ◌≤◌, ◌<◌, ◌-◌, length, IfOk, OnOk};
 ghost use Rattle.pw_messages.specs.LinkAnswers.{Agrees, Answers};
-ghost use Rattle.pw_stitch.specs.Relabelling.{relabelled};
-ghost use Rattle.pw_stitch.specs.Swap.{label_onward};
+ghost use Rattle.pw_stitch.specs.{Relabelling.{relabelled}, Swap.{label_onward}};
 ghost use Rattle.edge_model.specs.Packet.{switched};
 ghost use Rattle.pw_ends.specs.Ends.{end_in, place_of};
 ghost use Rattle.peer_dialogue.specs.AtWork.{WorkGoes};

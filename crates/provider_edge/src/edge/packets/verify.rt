@@ -1,19 +1,14 @@
 //! An echo packet came in a control channel of an end (RFC 5085 sections 3 and 5).
 ghost use Rattle.std.specs.Prelude.{◌≡◌, ◌<◌, ◌≤◌, true, Some, length, take, OnOk};
-ghost use Rattle.net_base.specs.declared.plan.wire_plan.WirePlan.{WirePlan};
-ghost use Rattle.net_base.specs.plan.Places.{wire_row};
+ghost use Rattle.net_base.specs.{declared.plan.wire_plan.WirePlan.{WirePlan}, plan.Places.{wire_row}};
 ghost use Rattle.net_base.specs.declared.trace.arrival.Arrival.TheVariants.{Own};
 ghost use Rattle.pw_messages.specs.LinkAnswers.{Agrees, Answers};
 ghost use Rattle.pw_ends.specs.Ends.{end_in, place_of};
 ghost use Rattle.pw_signalling.specs.declared.binding.Binding.{Binding as Bound};
-ghost use Rattle.vccv_channel.specs.Channel.{has_header};
-ghost use Rattle.vccv_channel.specs.Pick.{picked};
-ghost use Rattle.vccv_channel.specs.Reading.{behind_header};
-ghost use Rattle.edge_model.specs.Echo.{is_picked, ping_number, verifies};
-ghost use Rattle.edge_model.specs.declared.effect.Effect.TheVariants.{Pong};
+ghost use Rattle.vccv_channel.specs.{Channel.{has_header}, Pick.{picked}, Reading.{behind_header}};
+ghost use Rattle.edge_model.specs.{Echo.{is_picked, ping_number, verifies}, declared.effect.Effect.TheVariants.{Pong}};
 ghost use Rattle.peer_dialogue.specs.AtWork.{WorkGoes};
-ghost use Rattle.provider_edge.specs.AtWork.{at_work};
-ghost use Rattle.provider_edge.specs.Pings.{channel_by, verified_by};
+ghost use Rattle.provider_edge.specs.{AtWork.{at_work}, Pings.{channel_by, verified_by}};
 
 use crate::Edge;
 use crate::echo::answer_under;

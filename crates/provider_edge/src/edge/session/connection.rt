@@ -1,17 +1,11 @@
 //! Connections of the edge: one stands, one is lost, and the edge restarts.
-ghost use Rattle.std.specs.Prelude.{◌≡◌, ◌<◌, [], true, false, List, length, map, slice_get, OnOk};
-ghost use Rattle.std.specs.List.{list_any};
-ghost use Rattle.net_base.specs.plan.Paths.{are_joined};
+ghost use Rattle.std.specs.{Prelude.{◌≡◌, ◌<◌, [], true, false, List, length, map, slice_get, OnOk}, List.{list_any}};
+ghost use Rattle.net_base.specs.{plan.Paths.{are_joined}, declared.outside.link_call.LinkCall.{LinkCall}};
 ghost use Rattle.session_core.specs.State.{IsProper};
 ghost use Rattle.pw_messages.specs.LinkAnswers.{Agrees, Answers};
-ghost use Rattle.edge_model.specs.Connection.{connected_input, connects, lost_input, restart_input};
-ghost use Rattle.edge_model.specs.Labels.{meeting};
-ghost use Rattle.edge_model.specs.Work.{beginning};
-ghost use Rattle.net_base.specs.declared.outside.link_call.LinkCall.{LinkCall};
+ghost use Rattle.edge_model.specs.{Connection.{connected_input, connects, lost_input, restart_input}, Labels.{meeting}, Work.{beginning}};
 ghost use Rattle.peer_dialogue.specs.Peering.{connection_with, gone, peers_between};
-ghost use Rattle.provider_edge.specs.AtWork.{Takes, Works, at_work, worked_at};
-ghost use Rattle.provider_edge.specs.EndOf.{is_end_beside};
-ghost use Rattle.provider_edge.specs.Lists.{Keeps, seen, worked};
+ghost use Rattle.provider_edge.specs.{AtWork.{Takes, Works, at_work, worked_at}, EndOf.{is_end_beside}, Lists.{Keeps, seen, worked}};
 
 use crate::Edge;
 use crate::pings::forget_pings;

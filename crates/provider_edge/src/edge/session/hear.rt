@@ -1,19 +1,13 @@
 //! Octets of LDP are heard (RFC 5036 section 3.5.3): one PDU after another, and each message of a PDU in turn.
 ghost use Rattle.pw_messages.specs.LinkAnswers.{Agrees, Answers};
 ghost use Rattle.edge_model.specs.declared.effect.Effect.{Effect};
-ghost use Rattle.net_base.specs.declared.outside.link_call.LinkCall.{LinkCall};
-ghost use Rattle.std.specs.Prelude.{◌≡◌, ◌<◌, ◌+◌, ◌++◌, List, ℕ, true, Some, OnOk, false, []};
-ghost use Rattle.std.specs.List.{AllByRecursion};
-ghost use Rattle.net_values.specs.Octets.{AreOctets};
 ghost use Rattle.edge_model.specs.Hear.{acts_on, advice_of, advises, hears, hears_message, hears_pdu, octets_input, holds};
-ghost use Rattle.edge_model.specs.State.{has_end};
-ghost use Rattle.edge_model.specs.Work.{beginning};
-ghost use Rattle.peer_dialogue.specs.Heard.{CanBeHeard};
-ghost use Rattle.peer_dialogue.specs.Hearing.{HearsOn, IsWaitingFor, alive};
-ghost use Rattle.peer_dialogue.specs.Peering.{at_edge};
-ghost use Rattle.provider_edge.specs.AtWork.{Takes, Works, at_work, worked_at};
-ghost use Rattle.provider_edge.specs.Hearing.{AreTakenOut};
-ghost use Rattle.provider_edge.specs.Lists.{Keeps, seen};
+ghost use Rattle.edge_model.specs.{State.{has_end}, Work.{beginning}};
+ghost use Rattle.net_base.specs.declared.outside.link_call.LinkCall.{LinkCall};
+ghost use Rattle.std.specs.{Prelude.{◌≡◌, ◌<◌, ◌+◌, ◌++◌, List, ℕ, true, Some, OnOk, false, []}, List.{AllByRecursion}};
+ghost use Rattle.net_values.specs.Octets.{AreOctets};
+ghost use Rattle.peer_dialogue.specs.{Heard.{CanBeHeard}, Hearing.{HearsOn, IsWaitingFor, alive}, Peering.{at_edge}};
+ghost use Rattle.provider_edge.specs.{AtWork.{Takes, Works, at_work, worked_at}, Hearing.{AreTakenOut}, Lists.{Keeps, seen}};
 
 use crate::Edge;
 use ldp_grammar::{LdpId, Message, Pdu};

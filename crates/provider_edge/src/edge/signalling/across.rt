@@ -1,11 +1,8 @@
 //! What a switching point has on the other side of one of its ends, and what it takes of a neighbour (RFC 6073 sections 4 and 7.6).
 ghost use Rattle.std.specs.Prelude.{◌≡◌, ◌<◌, ◌≤◌, Some, length, true, false, option_copied, option_map, IfSome};
-ghost use Rattle.net_base.specs.declared.plan.wire_plan.WirePlan.{WirePlan};
-ghost use Rattle.net_base.specs.plan.Paths.{edge_address, mate};
-ghost use Rattle.net_base.specs.plan.Places.{wire_row};
+ghost use Rattle.net_base.specs.{declared.plan.wire_plan.WirePlan.{WirePlan}, plan.Paths.{edge_address, mate}, plan.Places.{wire_row}};
 ghost use Rattle.pw_tlvs.specs.Written.{has_vlan};
-ghost use Rattle.edge_model.specs.Across.{end_beyond, held_beyond, held_of};
-ghost use Rattle.edge_model.specs.Signal.{takes_content};
+ghost use Rattle.edge_model.specs.{Across.{end_beyond, held_beyond, held_of}, Signal.{takes_content}};
 ghost use Rattle.pw_ends.specs.Ends.{place_of};
 ghost use Rattle.provider_edge.specs.Lists.{seen};
 

@@ -1,15 +1,11 @@
 //! A MAC withdraw is heard: the bridge of the wire's service forgets, and the edge passes it on (RFC 4762 section 6.2).
 ghost use Rattle.std.specs.Prelude.{◌≡◌, ◌<◌, Some, None, true, length, position, slice_get, OnOk};
 ghost use Rattle.pw_messages.specs.LinkAnswers.{Agrees, Answers};
-ghost use Rattle.hvpls_spokes.specs.Port.{is_wire_port, ports_of};
-ghost use Rattle.hvpls_spokes.specs.Role.{role_of};
+ghost use Rattle.hvpls_spokes.specs.{Port.{is_wire_port, ports_of}, Role.{role_of}};
 ghost use Rattle.mac_withdraw.specs.Passing.{is_wire_at};
 ghost use Rattle.pw_ends.specs.Ends.{place_of};
-ghost use Rattle.edge_model.specs.Clear.{clears_by, hears_mac_withdraw, passes_on, tells_at, tells_by, withdrawing_at};
-ghost use Rattle.edge_model.specs.Ends.{wire_end};
-ghost use Rattle.provider_edge.specs.Taking.{copied_by};
-ghost use Rattle.provider_edge.specs.AtWork.{Works, at_work};
-ghost use Rattle.provider_edge.specs.Lists.{Keeps, seen};
+ghost use Rattle.edge_model.specs.{Clear.{clears_by, hears_mac_withdraw, passes_on, tells_at, tells_by, withdrawing_at}, Ends.{wire_end}};
+ghost use Rattle.provider_edge.specs.{Taking.{copied_by}, AtWork.{Works, at_work}, Lists.{Keeps, seen}};
 
 use crate::Edge;
 use hvpls_spokes::{Port, PortName, role};

@@ -1,16 +1,11 @@
 //! The ends of an edge: how one is found, and what becomes of it where the edge tells of it, one call a change.
 ghost use Rattle.std.specs.Prelude.{◌≡◌, ◌<◌, ◌≤◌, length, Some, None, option_map, IfSome, true, false};
 ghost use Rattle.pw_signalling.specs.Rows.{bound};
-ghost use Rattle.pw_ends.specs.Changes.{changed};
-ghost use Rattle.pw_ends.specs.Ends.{IsIdle, end_in, place_of};
-ghost use Rattle.edge_model.specs.EndPlaces.{end_named};
-ghost use Rattle.edge_model.specs.Labels.{label_to_give};
-ghost use Rattle.edge_model.specs.Mend.{advertising};
-ghost use Rattle.edge_model.specs.Signal.{end_of_fec, with_end_changed, with_named};
-ghost use Rattle.edge_model.specs.State.{with_ends_beside};
+ghost use Rattle.pw_ends.specs.{Changes.{changed}, Ends.{IsIdle, end_in, place_of}};
+ghost use Rattle.edge_model.specs.{EndPlaces.{end_named}, Labels.{label_to_give}, Mend.{advertising}};
+ghost use Rattle.edge_model.specs.{Signal.{end_of_fec, with_end_changed, with_named}, State.{with_ends_beside}};
 ghost use Rattle.peer_dialogue.specs.Heard.{CanBeTold};
-ghost use Rattle.provider_edge.specs.Changes.{KeepsLabels, changing};
-ghost use Rattle.provider_edge.specs.Lists.{Keeps, seen};
+ghost use Rattle.provider_edge.specs.{Changes.{KeepsLabels, changing}, Lists.{Keeps, seen}};
 
 use crate::Edge;
 use net_base::{EdgeId, Label};

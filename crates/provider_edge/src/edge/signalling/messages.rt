@@ -5,10 +5,8 @@ ghost use Rattle.net_base.specs.declared.outside.link_call.LinkCall.{LinkCall};
 ghost use Rattle.pw_messages.specs.LinkAnswers.{Agrees, Answers};
 ghost use Rattle.edge_model.specs.declared.effect.Effect.{Effect};
 ghost use Rattle.edge_model.specs.Signal.{end_of_fec, hears_status, hears_withdraw, maps_to, releases_label, with_released};
-ghost use Rattle.peer_dialogue.specs.Heard.{CanBeTold};
-ghost use Rattle.peer_dialogue.specs.Peering.{at_edge};
-ghost use Rattle.provider_edge.specs.AtWork.{Works, at_work};
-ghost use Rattle.provider_edge.specs.Lists.{Keeps, seen};
+ghost use Rattle.peer_dialogue.specs.{Heard.{CanBeTold}, Peering.{at_edge}};
+ghost use Rattle.provider_edge.specs.{AtWork.{Works, at_work}, Lists.{Keeps, seen}};
 
 use crate::Edge;
 use ldp_grammar::StatusCode;
