@@ -4,7 +4,8 @@ ghost use Rattle.pw_tlvs.specs.Fec.{IsFecValue};
 ghost use Rattle.ldp_grammar.specs.declared.message_kind.MessageKind.{MessageKind};
 ghost use Rattle.ldp_grammar.specs.{Rows.{row_of, type_of, is_in, fec, label, address_list}, Layouts.{listed}};
 ghost use Rattle.ldp_grammar.specs.Tlvs.{Tlv, IsFaultless, IsJoined, IsReason, HasValue, OfBoth, all_there, fec_reason, fec_value, first_unknown, missing as missing_in, value_of};
-ghost use Rattle.ldp_grammar.specs.{Spells.{IsRead, Means}, declared.message.Message.TheVariants as message};
+ghost use Rattle.ldp_grammar.specs.Spells.{IsRead, Means};
+ghost use Rattle.ldp_grammar.specs.declared.message.Message.TheVariants as message;
 ghost use Rattle.ldp_grammar.specs.Values.{IsAddressList, IsNumber};
 ghost use Rattle.ldp_codec.specs.Walk.{HasElement, IsComplete, IsWalked, element_in};
 

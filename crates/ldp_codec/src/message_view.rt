@@ -1,6 +1,7 @@
 //! Messages that are lent.
 ghost use Rattle.std.specs.Prelude.{◌≡◌, ◌≤◌, ◌<◌, ◌%◌, ◌^◌, ◌↔◌, true, List, None, length, option_map, IfOk, IsSome};
-ghost use Rattle.ldp_grammar.specs.{declared.message.Message.TheVariants as message, Rows.{kind_of, type_of}};
+ghost use Rattle.ldp_grammar.specs.Rows.{kind_of, type_of};
+ghost use Rattle.ldp_grammar.specs.declared.message.Message.TheVariants as message;
 ghost use Rattle.ldp_grammar.specs.{Spells.{Spelling, IsSpelling, StandsFor}, Tlvs.{Tlv, IsJoined, value_of}};
 ghost use Rattle.ldp_codec.specs.{Part.{joined}, Views.{IsSoundSpelling}};
 

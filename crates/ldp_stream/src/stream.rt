@@ -2,7 +2,8 @@
 ghost use Rattle.std.specs.Prelude.{◌≡◌, ◌≤◌, ◌↔◌, ◌⊎◌, ◌++◌, ℕ, List, Ok, Err, Some, None, IfErr, IfOk, IfSome, drop, length, take};
 ghost use Rattle.ldp_grammar.specs.{declared.fault.Fault.{Fault}, declared.pdu.Pdu.{Pdu}};
 ghost use Rattle.ldp_codec.specs.Decoded.{refusal_of};
-ghost use Rattle.ldp_stream.specs.{declared.stream_fault.StreamFault.TheVariants as stop, Front.{HasFront, IsPending}};
+ghost use Rattle.ldp_stream.specs.Front.{HasFront, IsPending};
+ghost use Rattle.ldp_stream.specs.declared.stream_fault.StreamFault.TheVariants as stop;
 ghost use Rattle.ldp_stream.specs.Seen.{HasNext, IsPeeked, IsRefusal};
 ghost use Rattle.ldp_stream.specs.State.{AnswersNext, IsFaultOf, Passes, Refuses, empty, place_behind, taken_count};
 

@@ -1,6 +1,7 @@
 //! The ports to which a MAC withdraw is passed.
 ghost use Rattle.std.specs.Prelude.{◌≡◌, ◌<◌, true, ℕ, length};
-ghost use Rattle.hvpls_spokes.specs.{PortSet.{holds_port}, declared.edge_role.Role.TheVariants as roles};
+ghost use Rattle.hvpls_spokes.specs.PortSet.{holds_port};
+ghost use Rattle.hvpls_spokes.specs.declared.edge_role.Role.TheVariants as roles;
 ghost use Rattle.mac_withdraw.specs.Passing.{is_passed_to, is_wire_at};
 
 use hvpls_spokes::{PortKind, PortSet, Ports, Role};

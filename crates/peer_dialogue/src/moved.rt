@@ -1,8 +1,10 @@
 //! A session that an event has moved.
 ghost use Rattle.std.specs.Prelude.{◌≡◌, ◌++◌, ◌∷◌, [], IfOk, OnOk, Some, None};
-ghost use Rattle.net_base.specs.{declared.trace.state_name.StateName.TheVariants as name, declared.trace.state_name.Reason.{Reason}};
+ghost use Rattle.net_base.specs.declared.trace.state_name.Reason.{Reason};
+ghost use Rattle.net_base.specs.declared.trace.state_name.StateName.TheVariants as name;
 ghost use Rattle.session_core.specs.{Session.{phase_name, view_of}, State.{EndedBy, SessionState, Stands}};
-ghost use Rattle.edge_model.specs.{declared.effect.Effect.TheVariants as told, State.{EdgeState}};
+ghost use Rattle.edge_model.specs.State.{EdgeState};
+ghost use Rattle.edge_model.specs.declared.effect.Effect.TheVariants as told;
 ghost use Rattle.peer_dialogue.specs.{AtWork.{WorkGoes}, Peering.{IsBetween, at_peer, ending_reason, having_put, next_state, settled}};
 
 use crate::at_work::AtWork;

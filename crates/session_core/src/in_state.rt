@@ -1,6 +1,7 @@
 //! A session that stands, in the state that its type tells.
 ghost use Rattle.std.specs.Prelude.{◌≡◌, ◌≢◌, ◌↔◌, ◌⊎◌, ◌≤◌, ◌<◌, ◌+◌, [], ◌∷◌, false, true};
-ghost use Rattle.session_core.specs.{declared.reply.Reply.TheVariants as reply, Phase.{is_agreed}, Parameters.{is_platform}};
+ghost use Rattle.session_core.specs.{Phase.{is_agreed}, Parameters.{is_platform}};
+ghost use Rattle.session_core.specs.declared.reply.Reply.TheVariants as reply;
 ghost use Rattle.session_core.specs.{Reasons.{HasEnded}, Session.{view_of}, State.{EndedBy, IsKept, Stands, in_phase}};
 ghost use Rattle.session_core.specs.StatusCodes.{about_none, data_of};
 ghost use Rattle.session_core.specs.Table.{after, Closed, Heard, Refused, said_replies, Spoke, third, Ticked};

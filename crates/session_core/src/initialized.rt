@@ -1,7 +1,8 @@
 //! The state in which no Initialization was sent or accepted.
 ghost use Rattle.std.specs.Prelude.{◌≡◌, ◌↔◌, [], ◌∷◌, false, true, IsTrue, ◌&&◌, not, ℕ};
 ghost use Rattle.net_base.specs.declared.trace.state_name.StateName.TheVariants as name;
-ghost use Rattle.session_core.specs.{declared.reply.Reply.TheVariants as reply, Phase as phase};
+ghost use Rattle.session_core.specs.declared.reply.Reply.TheVariants as reply;
+ghost use Rattle.session_core.specs.Phase as phase;
 ghost use Rattle.session_core.specs.Reasons.{expects, has_bad_receiver, has_bad_version, has_zero_time, HasEnded, is_acceptable, IsIn, proposes, tells_error, tells_shutdown};
 ghost use Rattle.session_core.specs.{Session.{view_of}, State.{IsKept, Stands, in_phase, IsProper, opened, is_active}};
 ghost use Rattle.session_core.specs.Table.{after, notified, reason_in, Received, said_replies, Start, view_after};

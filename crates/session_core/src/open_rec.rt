@@ -2,7 +2,8 @@
 ghost use Rattle.std.specs.Prelude.{true, ◌≡◌, ◌↔◌, [], false, IsTrue, ◌<◌};
 ghost use Rattle.net_base.specs.declared.trace.state_name.StateName.TheVariants as name;
 ghost use Rattle.ldp_grammar.specs.declared.message.Message.{Message};
-ghost use Rattle.session_core.specs.{Phase as phase, Reasons.{expects, HasEnded, is_keep_alive, IsIn, tells_error, tells_shutdown}};
+ghost use Rattle.session_core.specs.Reasons.{expects, HasEnded, is_keep_alive, IsIn, tells_error, tells_shutdown};
+ghost use Rattle.session_core.specs.Phase as phase;
 ghost use Rattle.session_core.specs.{Session.{view_of}, State.{IsKept, Stands, in_phase, is_active}};
 ghost use Rattle.session_core.specs.Table.{after, notified, reason_in, Received, said_replies, view_after};
 

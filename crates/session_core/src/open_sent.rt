@@ -1,7 +1,9 @@
 //! The state in which the active end waits for the peer's Initialization.
 ghost use Rattle.std.specs.Prelude.{◌≡◌, ◌↔◌, [], ◌∷◌, false, IsTrue};
 ghost use Rattle.net_base.specs.declared.trace.state_name.StateName.TheVariants as name;
-ghost use Rattle.session_core.specs.{declared.reply.Reply.TheVariants as reply, Phase as phase, Parameters.{proposal_refusal}};
+ghost use Rattle.session_core.specs.Parameters.{proposal_refusal};
+ghost use Rattle.session_core.specs.declared.reply.Reply.TheVariants as reply;
+ghost use Rattle.session_core.specs.Phase as phase;
 ghost use Rattle.session_core.specs.Reasons.{expects, has_bad_receiver, has_bad_version, has_zero_time, HasEnded, is_acceptable, IsIn, proposes, tells_error, tells_shutdown};
 ghost use Rattle.session_core.specs.{Session.{view_of}, State.{IsKept, Stands, in_phase, is_active}};
 ghost use Rattle.session_core.specs.Table.{after, judged, notified, reason_in, Received, replies_of, said_replies, view_after};

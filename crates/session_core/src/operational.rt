@@ -1,7 +1,8 @@
 //! The state in which the session is up.
 ghost use Rattle.std.specs.Prelude.{true, ◌≡◌, ◌↔◌, false, IsTrue, ◌<◌};
 ghost use Rattle.net_base.specs.declared.trace.state_name.StateName.TheVariants as name;
-ghost use Rattle.session_core.specs.{Phase as phase, Reasons.{expects, HasEnded, is_fatal, IsIn, tells_error, tells_shutdown}};
+ghost use Rattle.session_core.specs.Reasons.{expects, HasEnded, is_fatal, IsIn, tells_error, tells_shutdown};
+ghost use Rattle.session_core.specs.Phase as phase;
 ghost use Rattle.session_core.specs.{Session.{view_of}, State.{IsKept, Stands, in_phase, is_active}};
 ghost use Rattle.session_core.specs.Table.{after, notified, reason_in, Received, replies_of, said_replies, view_after};
 

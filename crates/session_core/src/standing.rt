@@ -1,7 +1,9 @@
 //! What a session that stands has, in each of its states.
 ghost use Rattle.std.specs.Prelude.{◌≡◌, ◌<◌, ◌+◌, ◌^◌, ◌↔◌, ◌&&◌, [], ◌∷◌, IfSome, IfNone, None, min, false, true, nat_le, if◌then◌else◌};
-ghost use Rattle.session_core.specs.{Parameters.{is_platform, longest, proposal_refusal}, Phase as phase, State.{IsKept, IsProper}};
-ghost use Rattle.session_core.specs.{Table.{one_more, third}, declared.reply.Reply.TheVariants as reply};
+ghost use Rattle.session_core.specs.{Parameters.{is_platform, longest, proposal_refusal}, State.{IsKept, IsProper}};
+ghost use Rattle.session_core.specs.Phase as phase;
+ghost use Rattle.session_core.specs.Table.{one_more, third};
+ghost use Rattle.session_core.specs.declared.reply.Reply.TheVariants as reply;
 
 use crate::parameters::{is_platform, longest};
 use crate::{Peers, Replies, Reply};
