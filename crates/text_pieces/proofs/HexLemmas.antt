@@ -2,8 +2,8 @@
 use Rattle.std.proofs.Common.{◌≡◌, ◌≤◌, ◌+◌, ◌*◌, ◌/◌, ◌%◌, ◌++◌, ◌∙◌, ℕ, List, [], ◌∷◌, length, take, drop, refl, ap, sym, arith, append_assoc, take-append-drop}
 use Rattle.std.specs.Prelude.{slice_index}
 use Rattle.std.proofs.lemmas.List.{append-nil, drop-drop, drop_all}
-use Rattle.std.proofs.lemmas.Slice.{take-put_mid}
-use borrow.Rule.Slice.PartMut.{put_mid}
+use Rattle.std.specs.Simd.Lanes.{put_chunk}
+use Rattle.std.proofs.lemmas.Simd.{take_more_put_chunk}
 use Rattle.hex.specs.Hex.{encode_with, lower_digits}
 use Rattle.text_pieces.specs.Pieces.{hex}
 
@@ -43,15 +43,14 @@ digits_all text whole octets at end told =
 pub hex_begun : (digits octets : List ℕ) → take (2 * 0) digits ++ hex (drop 0 octets) ≡ hex octets
 hex_begun digits octets = refl
 
--- the digits of a piece are written behind those before it
-pub piece_written : (digits octets rest piece made : List ℕ) (at count room : ℕ) → rest ≡ drop at octets → piece ≡ take count rest
-    → made ≡ hex piece → room ≡ 2 * count → length made ≡ 2 * count → 2 * at ≤ length digits → take (2 * at) digits ++ hex (drop at octets) ≡ hex octets
-    → take (2 * (at + count)) (put_mid (2 * at) room digits made) ++ hex (drop (at + count) octets) ≡ hex octets
-piece_written digits octets rest piece made at count room behind front is size len fits told =
-    let more : List ℕ = hex (drop (at + count) octets) in
-    let adds : take (2 * (at + count)) (put_mid (2 * at) room digits made) ≡ take (2 * at) digits ++ made =
-    take-put_mid (2 * at) room digits made (2 * (at + count)) (omega (arith, len)) fits in
-    let split : hex (drop at octets) ≡ made ++ more =
-    hex_from octets at count ∙ ap (λ (l : List ℕ). l ++ more) (ap hex (sym (front ∙ ap (take count) behind)) ∙ sym is) in
+-- the digits of eight octets are written behind those before them
+pub sixteen_written : (digits octets made now : List ℕ) (at : ℕ) → at + 8 ≤ length octets → length digits ≡ 2 * length octets → length made ≡ 16
+    → made ≡ hex (take 8 (drop at octets)) → now ≡ put_chunk (2 * at) digits made → take (2 * at) digits ++ hex (drop at octets) ≡ hex octets
+    → take (2 * (at + 8)) now ++ hex (drop (at + 8) octets) ≡ hex octets
+sixteen_written digits octets made now at within size len is put told =
+    let more : List ℕ = hex (drop (at + 8) octets) in
+    let adds : take (2 * (at + 8)) now ≡ take (2 * at) digits ++ made =
+    ap (take (2 * (at + 8))) put ∙ take_more_put_chunk (2 * at) digits made (2 * (at + 8)) (omega (arith, len)) (omega (arith, within, size)) in
+    let split : hex (drop at octets) ≡ made ++ more = hex_from octets at 8 ∙ ap (λ (l : List ℕ). l ++ more) (sym is) in
     (ap (λ (l : List ℕ). l ++ more) adds ∙ append_assoc (take (2 * at) digits) made more)
     ∙ (ap (λ (l : List ℕ). take (2 * at) digits ++ l) (sym split) ∙ told)

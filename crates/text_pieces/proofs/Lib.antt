@@ -1,5 +1,5 @@
 pub mod CutLemmas
-pub mod DigitLemmas
 pub mod HexLemmas
+pub mod LaneLemmas
 pub mod PairLemmas
 pub mod SpacedLemmas

@@ -1,10 +1,12 @@
 //! Octets in hexadecimal.
-ghost use Rattle.std.specs.Prelude.{◌≡◌, ◌<◌, ◌≤◌, ◌++◌, ◌*◌, codes, drop, length, slice_index, take, OnOk};
+ghost use Rattle.std.specs.Prelude.{◌≡◌, ◌<◌, ◌≤◌, ◌+◌, ◌++◌, ◌*◌, codes, drop, length, map, slice_index, take, OnOk};
+ghost use Rattle.std.specs.Simd.Lanes.{Each1, chunk, put_chunk};
 ghost use Rattle.hex.specs.Hex.{lower_digits};
 ghost use Rattle.text_pieces.specs.Pieces.{hex};
 
 use crate::pieces::put_text;
 use net_values::NoMemory;
+use std::simd::prelude::*;
 
 /// The most octets that are turned at once: what one entry's frame mostly has.
 const PIECE: usize = 64;
@@ -73,38 +75,51 @@ fn write_eights(octets: &[u8], digits: &mut [u8]) -> usize
 {
     let mut at = 0;
     'writing: while octets.len() - at >= EIGHT {
-        let (_, rest) = octets.split_at(at);
-        let (eight, _) = rest.split_at(EIGHT);
-        digits[2 * at..2 * at + 2 * EIGHT].copy_from_slice(&sixteen(eight));
+        put_sixteen(digits, 2 * at, sixteen(eight_at(octets, at)));
         at += EIGHT;
     }
     at
 }
 
-// The digits of eight octets. They are computed, and not looked up, so that all are made at once.
-fn sixteen(eight: &[u8]) -> [u8; 16]
-    requires { length eight.now ≡ 8 }
-    ensures { result ≡ hex eight.now }
+// Eight octets from a place on.
+#[inline(always)]
+fn eight_at(octets: &[u8], at: usize) -> u8x8
+    requires { at + 8 ≤ length octets.now }
+    ensures { result ≡ chunk at 8 octets.now }
 {
-    let mut digits = [0u8; 2 * EIGHT];
-    'writing: for i in 0..EIGHT {
-        digits[2 * i] = digit(eight[i] / 16);
-        digits[2 * i + 1] = digit(eight[i] % 16);
-    }
-    digits
+    u8x8::from_slice(&octets[at..])
 }
 
-// The digit of a number below 16.
-#[tactic(auto, using(crate::proofs::DigitLemmas::digit_is))]
-fn digit(number: u8) -> u8
-    requires { number < 16 }
-    ensures { result ≡ slice_index lower_digits number }
+// Writes sixteen digits at a place.
+#[inline(always)]
+fn put_sixteen(digits: &mut [u8], at: usize, sixteen: u8x16)
+    requires { at + 16 ≤ length digits.old }
+    ensures { digits.new ≡ put_chunk at digits.old sixteen }
 {
-    if number < 10 {
-        48 + number
-    } else {
-        87 + number
-    }
+    sixteen.copy_to_slice(&mut digits[at..]);
+}
+
+// The digits of eight octets, made side by side.
+#[inline(always)]
+fn sixteen(eight: u8x8) -> u8x16
+    ensures { result ≡ hex eight }
+{
+    let halves = halves(eight);
+    halves
+        .simd_lt(u8x16::splat(10))
+        .select(halves + u8x16::splat(48), halves + u8x16::splat(87))
+}
+
+// The two halves of each of eight octets, the high one first.
+#[inline(always)]
+fn halves(eight: u8x8) -> u8x16
+    ensures digits { map (slice_index lower_digits) result ≡ hex eight }
+    ensures small { Each1 (λ half. half < 16) result }
+    ensures size { length result ≡ 16 }
+{
+    let high = eight / u8x8::splat(16);
+    let low = eight % u8x8::splat(16);
+    high.shuffle(low, [0, 8, 1, 9, 2, 10, 3, 11, 4, 12, 5, 13, 6, 14, 7, 15])
 }
 
 /// Adds a blank and octets in hexadecimal.
