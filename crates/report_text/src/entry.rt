@@ -1,13 +1,15 @@
 //! The line of an entry.
 ghost use Rattle.std.specs.{Prelude.{◌≡◌, ◌∷◌, [], codes, map}, Fmt.{decimal}};
-ghost use Rattle.report_text.specs.{Report.{entry_line}, Words.{cause_name, edge_name, state_name, wire_end_name, wire_name}};
+ghost use Rattle.report_text.specs.{Report.{entry_line}, SentWords.{sent_words}, Words.{cause_name, edge_name, state_name, wire_end_name, wire_name}};
 ghost use Rattle.text_lines.specs.{Lines.{line_of, word_octets}, Written.{PutsOn}};
 ghost use Rattle.text_pieces.specs.Pieces.{hex};
 
 use crate::event::put_event;
 use crate::names::{
-    arrival_word, cause_text, circuit_text, edge_word, state_text, wire_end_text, wire_word,
+    arrival_text, cause_text, circuit_text, edge_text, edge_word, state_text, wire_end_text,
+    wire_text, wire_word,
 };
+use crate::sent_words::SentWords;
 use net_base::{CircuitId, Down, DropCause, EdgeId, Entry, Failed, Plan, Sink, StateName, WireId};
 use text_lines::{LineWord, Page};
 
@@ -54,6 +56,21 @@ fn put_left<K: Sink>(
     page.put_next(sink, LineWord::Number(origin))?;
     page.put_next(sink, LineWord::Number(hops))?;
     page.put_last(sink, LineWord::Hex(octets))
+}
+
+// Puts the line of a packet that was sent.
+fn put_sent<K: Sink>(page: &mut Page, sink: &mut K, sent: &SentWords<'_>) -> Result<(), Failed>
+    ensures { PutsOn K.taken K.faults page.old page.new sink.old sink.new result (line_of (sent_words sent.now)) }
+{
+    page.put(sink, b"sent")?;
+    page.put_next(sink, LineWord::Number(sent.packet))?;
+    page.put_next(sink, LineWord::Text(sent.from))?;
+    page.put_next(sink, LineWord::Text(sent.to))?;
+    page.put_next(sink, LineWord::Text(sent.wire))?;
+    page.put_next(sink, LineWord::Text(sent.arrival))?;
+    page.put_next(sink, LineWord::Number(sent.origin))?;
+    page.put_next(sink, LineWord::Number(sent.hops))?;
+    page.put_last(sink, LineWord::Hex(sent.octets))
 }
 
 // A packet that came a second time.
@@ -138,6 +155,28 @@ pub fn put_entry<'a, K: Sink>(
             let circuit = circuit_text(plan, circuit);
             put_left(page, sink, circuit, origin, hops, bytes.as_slice())
         }
+        Entry::Sent {
+            packet,
+            from,
+            to,
+            wire: over,
+            arrival: by,
+            origin,
+            hops,
+            ref bytes,
+        } => {
+            let sent = SentWords {
+                packet,
+                from: edge_text(plan, from),
+                to: edge_text(plan, to),
+                wire: wire_text(plan, over),
+                arrival: arrival_text(plan, by),
+                origin,
+                hops,
+                octets: bytes.as_slice(),
+            };
+            put_sent(page, sink, &sent)
+        }
         _ => put_any_entry(page, sink, plan, entry),
     }
 }
@@ -177,20 +216,19 @@ fn put_any_entry<'a, K: Sink>(
             origin,
             hops,
             ref bytes,
-        } => page.put_line(
-            sink,
-            b"sent",
-            &[
-                LineWord::Number(packet),
-                edge_word(plan, from),
-                edge_word(plan, to),
-                wire_word(plan, over),
-                arrival_word(plan, by),
-                LineWord::Number(origin),
-                LineWord::Number(hops),
-                LineWord::Hex(bytes.as_slice()),
-            ],
-        ),
+        } => {
+            let sent = SentWords {
+                packet,
+                from: edge_text(plan, from),
+                to: edge_text(plan, to),
+                wire: wire_text(plan, over),
+                arrival: arrival_text(plan, by),
+                origin,
+                hops,
+                octets: bytes.as_slice(),
+            };
+            put_sent(page, sink, &sent)
+        }
         Entry::Copied { packet, of } => page.put_line(sink, b"copied", &copied(packet, of)),
         Entry::Aged { packet } => page.put_line(sink, b"aged", &[LineWord::Number(packet)]),
         Entry::Left {

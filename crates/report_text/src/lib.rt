@@ -11,6 +11,7 @@ mod event_words;
 mod last_line;
 mod names;
 mod report;
+mod sent_words;
 
 pub use ending::Ending;
 pub use entry::put_entry;

@@ -7,13 +7,20 @@ use net_base::{Arrival, CircuitId, Down, DropCause, EdgeId, Plan, Reason, StateN
 use text_lines::LineWord;
 
 /// The name of an edge; empty outside the plan.
+pub fn edge_text(plan: &Plan, edge: EdgeId) -> &[u8]
+    ensures { result.now ≡ edge_name plan.now edge }
+{
+    match plan.edges.get(edge.0 as usize) {
+        Some(row) => row.name.as_slice(),
+        None => &[],
+    }
+}
+
+/// The name of an edge as a word.
 pub fn edge_word(plan: &Plan, edge: EdgeId) -> LineWord<'_>
     ensures { word_octets result ≡ edge_name plan.now edge }
 {
-    match plan.edges.get(edge.0 as usize) {
-        Some(row) => LineWord::Text(row.name.as_slice()),
-        None => LineWord::Text(&[]),
-    }
+    LineWord::Text(edge_text(plan, edge))
 }
 
 /// The name of a circuit; empty outside the plan.
@@ -34,24 +41,38 @@ pub fn circuit_word(plan: &Plan, circuit: CircuitId) -> LineWord<'_>
 }
 
 /// The name of a wire; empty outside the plan.
-pub fn wire_word(plan: &Plan, wire: WireId) -> LineWord<'_>
-    ensures { word_octets result ≡ wire_name plan.now wire }
+pub fn wire_text(plan: &Plan, wire: WireId) -> &[u8]
+    ensures { result.now ≡ wire_name plan.now wire }
 {
     match plan.wires.get(wire.0 as usize) {
-        Some(row) => LineWord::Text(row.name.as_slice()),
-        None => LineWord::Text(&[]),
+        Some(row) => row.name.as_slice(),
+        None => &[],
     }
 }
 
+/// The name of a wire as a word.
+pub fn wire_word(plan: &Plan, wire: WireId) -> LineWord<'_>
+    ensures { word_octets result ≡ wire_name plan.now wire }
+{
+    LineWord::Text(wire_text(plan, wire))
+}
+
 /// By what a frame came: a circuit, a wire, or a dash for none.
+pub fn arrival_text(plan: &Plan, arrival: Arrival) -> &[u8]
+    ensures { result.now ≡ arrival_name plan.now arrival }
+{
+    match arrival {
+        Arrival::Circuit(place) => circuit_text(plan, place),
+        Arrival::Wire(place) => wire_text(plan, place),
+        Arrival::Own => b"-",
+    }
+}
+
+/// By what a frame came as a word.
 pub fn arrival_word(plan: &Plan, arrival: Arrival) -> LineWord<'_>
     ensures { word_octets result ≡ arrival_name plan.now arrival }
 {
-    match arrival {
-        Arrival::Circuit(place) => circuit_word(plan, place),
-        Arrival::Wire(place) => wire_word(plan, place),
-        Arrival::Own => LineWord::Text(b"-"),
-    }
+    LineWord::Text(arrival_text(plan, arrival))
 }
 
 /// `on` or `off`.
