@@ -1,3 +1,4 @@
 pub mod Receiver
 pub mod Heard
 pub mod Lists
+pub mod Speaking

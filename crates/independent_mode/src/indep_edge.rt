@@ -58,7 +58,10 @@ impl IndepEdge {
         ensures ends { EndsBy (L.calls link.old) (L.calls link.new) result }
         ensures step { (told : Answers) → Agrees told (L.calls link.new) → Comes result (independent_seen self.new) (L.calls link.new) (independent_connects self.old.plan told self.old.me.0 peer (independent_seen self.old) (L.calls link.old)) }
     {
-        let connection = Connection::new(alloc)?;
+        let connection = match Connection::new(alloc) {
+            Ok(connection) => connection,
+            Err(NoMemory) => return Err(IndepStop::NoMemory),
+        };
         self.put_connection(peer, Some(connection));
         self.tell_all(alloc, peer, link)
     }

@@ -3,10 +3,10 @@ ghost use Rattle.std.specs.Prelude.{◌≡◌, ◌<◌, ◌++◌, ℕ, List, Som
 ghost use Rattle.net_values.specs.Octets.{AreOctets};
 ghost use Rattle.pw_messages.specs.LinkAnswers.{Agrees, Answers};
 ghost use Rattle.independent_mode.specs.{Receiver.{IsTakenOut, IsReceiverWaiting, receiver_of, kept_after}, Heard.{HearsTo}};
-ghost use Rattle.independent_mode.specs.Lists.{KeepsIndependent, independent_seen};
+ghost use Rattle.independent_mode.specs.{Lists.{KeepsIndependent, independent_seen}, Speaking.{Speaks}};
 ghost use Rattle.independent_model.specs.Hear.{hears_at, independent_hears_message, independent_hears_messages, hears_notice, independent_hears_status};
 ghost use Rattle.independent_model.specs.{State.{with_receiver, with_remote, without_remotes}, Wires.{is_between}};
-ghost use Rattle.independent_model.specs.Work.{Comes, CallsGoOn, NeverRefused};
+ghost use Rattle.independent_model.specs.Work.{Comes, CallsGoOn};
 
 use crate::connection::PeerStream;
 use crate::{IndepEdge, IndepStop};
@@ -29,10 +29,7 @@ impl IndepEdge {
     ) -> Result<(), IndepStop>
         requires wire { wire < length self.old.plan.wires }
         requires within { peer.0 < length self.old.plan.edges }
-        ensures keeps { KeepsIndependent self.old self.new }
-        ensures goes { CallsGoOn (L.calls link.old) (L.calls link.new) }
-        ensures never { NeverRefused result }
-        ensures step { (told : Answers) → Agrees told (L.calls link.new) → Comes result (independent_seen self.new) (L.calls link.new) (independent_hears_status self.old.plan told self.old.me.0 peer wire status (independent_seen self.old) (L.calls link.old)) }
+        ensures { Speaks self.old self.new (L.calls link.old) (L.calls link.new) result (λ told. independent_hears_status self.old.plan told self.old.me.0 peer wire status (independent_seen self.old) (L.calls link.old)) }
     {
         let wish = self.wish(wire);
         self.set_remote(wire, Some(status));
@@ -55,10 +52,7 @@ impl IndepEdge {
         link: &mut L,
     ) -> Result<(), IndepStop>
         requires within { peer.0 < length self.old.plan.edges }
-        ensures keeps { KeepsIndependent self.old self.new }
-        ensures goes { CallsGoOn (L.calls link.old) (L.calls link.new) }
-        ensures never { NeverRefused result }
-        ensures step { (told : Answers) → Agrees told (L.calls link.new) → Comes result (independent_seen self.new) (L.calls link.new) (hears_notice self.old.plan told self.old.me.0 peer code status fec (independent_seen self.old) (L.calls link.old)) }
+        ensures { Speaks self.old self.new (L.calls link.old) (L.calls link.new) result (λ told. hears_notice self.old.plan told self.old.me.0 peer code status fec (independent_seen self.old) (L.calls link.old)) }
     {
         let Some(status) = status else {
             return Ok(());
@@ -84,10 +78,7 @@ impl IndepEdge {
         link: &mut L,
     ) -> Result<(), IndepStop>
         requires within { peer.0 < length self.old.plan.edges }
-        ensures keeps { KeepsIndependent self.old self.new }
-        ensures goes { CallsGoOn (L.calls link.old) (L.calls link.new) }
-        ensures never { NeverRefused result }
-        ensures step { (told : Answers) → Agrees told (L.calls link.new) → Comes result (independent_seen self.new) (L.calls link.new) (independent_hears_message self.old.plan told self.old.me.0 peer message.now (independent_seen self.old) (L.calls link.old)) }
+        ensures { Speaks self.old self.new (L.calls link.old) (L.calls link.new) result (λ told. independent_hears_message self.old.plan told self.old.me.0 peer message.now (independent_seen self.old) (L.calls link.old)) }
     {
         match message {
             Message::Notification {
@@ -110,10 +101,7 @@ impl IndepEdge {
         link: &mut L,
     ) -> Result<(), IndepStop>
         requires within { peer.0 < length self.old.plan.edges }
-        ensures keeps { KeepsIndependent self.old self.new }
-        ensures goes { CallsGoOn (L.calls link.old) (L.calls link.new) }
-        ensures never { NeverRefused result }
-        ensures step { (told : Answers) → Agrees told (L.calls link.new) → Comes result (independent_seen self.new) (L.calls link.new) (independent_hears_messages self.old.plan told self.old.me.0 peer messages.now (independent_seen self.old) (L.calls link.old)) }
+        ensures { Speaks self.old self.new (L.calls link.old) (L.calls link.new) result (λ told. independent_hears_messages self.old.plan told self.old.me.0 peer messages.now (independent_seen self.old) (L.calls link.old)) }
     {
         for place in 0..messages.len() {
             match self.hear_message(alloc, peer, &messages[place], link) {

@@ -1,11 +1,10 @@
 //! What an edge calls its wires is told.
 ghost use Rattle.std.specs.Prelude.{◌≡◌, ◌<◌, ℕ, Some, None, Ok, Err, length, slice_get, IfOk};
 ghost use Rattle.net_base.specs.declared.plan.wire_plan.WirePlan.{WirePlan};
-ghost use Rattle.pw_messages.specs.LinkAnswers.{Agrees, Answers};
 ghost use Rattle.independent_model.specs.{Calls.{tells_other}, State.{ConnectionState, spoken_once, with_connection}};
-ghost use Rattle.independent_model.specs.{Tell.{octets_on, tells, tells_from, tells_place}, Wires.{other_end}};
-ghost use Rattle.independent_model.specs.Work.{Comes, CallsGoOn, IsPutOnLink, NeverRefused};
-ghost use Rattle.independent_mode.specs.Lists.{KeepsIndependent, independent_seen};
+ghost use Rattle.independent_model.specs.{Tell.{octets_on, tells, tells_from}, Wires.{other_end}};
+ghost use Rattle.independent_model.specs.Work.{CallsGoOn, IsPutOnLink, NeverRefused};
+ghost use Rattle.independent_mode.specs.{Lists.{KeepsIndependent, independent_seen}, Speaking.{Speaks}};
 
 use crate::notification::notification_octets;
 use crate::{IndepEdge, IndepStop};
@@ -43,12 +42,9 @@ impl IndepEdge {
         wire: usize,
         link: &mut L,
     ) -> Result<(), IndepStop>
-        requires wire { wire < length self.old.plan.wires }
         requires within { peer.0 < length self.old.plan.edges }
-        ensures keeps { KeepsIndependent self.old self.new }
-        ensures goes { CallsGoOn (L.calls link.old) (L.calls link.new) }
-        ensures never { NeverRefused result }
-        ensures step { (told : Answers) → Agrees told (L.calls link.new) → Comes result (independent_seen self.new) (L.calls link.new) (tells self.old.plan told self.old.me.0 peer wire (independent_seen self.old) (L.calls link.old)) }
+        requires wire { wire < length self.old.plan.wires }
+        ensures { Speaks self.old self.new (L.calls link.old) (L.calls link.new) result (λ told. tells self.old.plan told self.old.me.0 peer wire (independent_seen self.old) (L.calls link.old)) }
     {
         let Some(id) = self.next_id(peer) else {
             return Ok(());
@@ -74,10 +70,7 @@ impl IndepEdge {
         link: &mut L,
     ) -> Result<(), IndepStop>
         requires wire { wire < length self.old.plan.wires }
-        ensures keeps { KeepsIndependent self.old self.new }
-        ensures goes { CallsGoOn (L.calls link.old) (L.calls link.new) }
-        ensures never { NeverRefused result }
-        ensures step { (told : Answers) → Agrees told (L.calls link.new) → Comes result (independent_seen self.new) (L.calls link.new) (tells_other self.old.plan told self.old.me.0 wire (other_end self.old.plan self.old.me.0 wire) (independent_seen self.old) (L.calls link.old)) }
+        ensures { Speaks self.old self.new (L.calls link.old) (L.calls link.new) result (λ told. tells_other self.old.plan told self.old.me.0 wire (other_end self.old.plan self.old.me.0 wire) (independent_seen self.old) (L.calls link.old)) }
     {
         match self.other_end(wire) {
             Some(peer) => self.tell(alloc, peer, wire, link),
@@ -85,29 +78,7 @@ impl IndepEdge {
         }
     }
 
-    // The same of a wire that joins the edge and the peer, and nothing of another one.
-    fn tell_place<L: Link>(
-        &mut self,
-        alloc: Global,
-        peer: EdgeId,
-        wire: usize,
-        link: &mut L,
-    ) -> Result<(), IndepStop>
-        requires wire { wire < length self.old.plan.wires }
-        requires within { peer.0 < length self.old.plan.edges }
-        ensures keeps { KeepsIndependent self.old self.new }
-        ensures goes { CallsGoOn (L.calls link.old) (L.calls link.new) }
-        ensures never { NeverRefused result }
-        ensures step { (told : Answers) → Agrees told (L.calls link.new) → Comes result (independent_seen self.new) (L.calls link.new) (tells_place self.old.plan told self.old.me.0 peer wire (independent_seen self.old) (L.calls link.old)) }
-    {
-        if self.is_with(wire, peer) {
-            self.tell(alloc, peer, wire, link)
-        } else {
-            Ok(())
-        }
-    }
-
-    // The same of each wire, in the order of the plan.
+    // The same of each wire that joins the edge and the peer, in the order of the plan.
     #[tactic(auto, using(crate::proofs::TellLemmas::from_more, crate::proofs::TellLemmas::from_end, crate::proofs::TellLemmas::same_calls))]
     pub(crate) fn tell_all<L: Link>(
         &mut self,
@@ -115,17 +86,16 @@ impl IndepEdge {
         peer: EdgeId,
         link: &mut L,
     ) -> Result<(), IndepStop>
-        requires within { peer.0 < length self.old.plan.edges }
-        ensures keeps { KeepsIndependent self.old self.new }
-        ensures goes { CallsGoOn (L.calls link.old) (L.calls link.new) }
-        ensures never { NeverRefused result }
-        ensures step { (told : Answers) → Agrees told (L.calls link.new) → Comes result (independent_seen self.new) (L.calls link.new) (tells_from self.old.plan told self.old.me.0 peer 0 (length self.old.plan.wires) (independent_seen self.old) (L.calls link.old)) }
+        requires { peer.0 < length self.old.plan.edges }
+        ensures { Speaks self.old self.new (L.calls link.old) (L.calls link.new) result (λ told. tells_from self.old.plan told self.old.me.0 peer 0 (length self.old.plan.wires) (independent_seen self.old) (L.calls link.old)) }
     {
         let count = self.plan.wires.len();
         for wire in 0..count {
-            match self.tell_place(alloc, peer, wire, link) {
-                Ok(()) => {}
-                Err(stop) => return Err(stop),
+            if self.is_with(wire, peer) {
+                match self.tell(alloc, peer, wire, link) {
+                    Ok(()) => {}
+                    Err(stop) => return Err(stop),
+                }
             }
         }
         Ok(())
