@@ -2,57 +2,51 @@
 use Rattle.std.proofs.Common.{◌≡◌, ◌==◌, ◌≤◌, ◌+◌, ◌-◌, ◌++◌, ◌∷◌, ◌∙◌, ◌&&◌, ◌||◌, [], ℕ, Bool, true, false, not, List, Option, Some, None, cond, refl, ap, sym, subst, arith, unwrap_or}
 use Rattle.std.proofs.lemmas.Bool.{eqb-true}
 use Rattle.std.proofs.lemmas.Bool.Decides.{nat_tests}
-use Rattle.std.specs.BTreeMap.{is_at}
 use Rattle.std.specs.List.{list_any}
-use Rattle.std.specs.Map.{lookup}
-use Rattle.std.specs.Ordering.{nat_cmp}
 use Rattle.net_values.proofs.NumberLemmas.{equal_turned}
 use Rattle.net_base.specs.declared.trace.state_name.StateName.{StateName}
 use Rattle.net_base.specs.declared.trace.state_name.StateName.TheVariants as state
 use Rattle.seen_network.specs.Once.{has_seen, is_seen_copy, names_seen}
 use Rattle.seen_network.specs.Seen.{Seen, SeenCopy, copy_comes, copy_goes, origin_among, repeats, said_towards, session_told, with_copies, with_octets, with_rest, with_standing, with_up, without_copy}
+use Rattle.seen_state.specs.Numbered.{Values, no_values, value_at}
 use Rattle.seen_state.specs.Copies.{is_number, AreFew, CopyMaps, HaveOwnNumbers, TellsPackets, copies_of, count_in, origin_under}
-
-same_number : (a x : ℕ) → is_at (nat_cmp a) x ≡ (x == a)
-same_number a x = grind (arith, nat_tests)
 
 -- ---- counts
 
-pub none_few : AreFew (record { origins = []; counts = []; comings = 0 })
+pub none_few : AreFew (record { origins = no_values; counts = no_values; comings = 0 })
 none_few = λ o. omega arith
 
-pub none_told : TellsPackets (record { origins = []; counts = []; comings = 0 }) []
+pub none_told : TellsPackets (record { origins = no_values; counts = no_values; comings = 0 }) []
 none_told = record { origins = λ n. refl; counts = λ o. refl; own = tt }
 
 -- another count at one origin
-pub count_put : (old new : List (ℕ × ℕ)) (origin n : ℕ) → ((q : ℕ) → lookup (is_at (nat_cmp q)) new ≡ cond (is_at (nat_cmp origin) q) (Some n) (lookup (is_at (nat_cmp q)) old))
+pub count_put : (old new : Values ℕ) (origin n : ℕ) → ((q : ℕ) → value_at new q ≡ cond (q == origin) (Some n) (value_at old q))
     → (other : ℕ) → count_in new other ≡ cond (other == origin) n (count_in old other)
-count_put old new origin n put other = ap (λ (o : Option ℕ). unwrap_or o 0) (put other ∙ ap (λ (b : Bool). cond b (Some n) (lookup (is_at (nat_cmp other)) old)) (same_number origin other)) ∙ by (other == origin) where
-  by : (b : Bool) → unwrap_or (cond b (Some n) (lookup (is_at (nat_cmp other)) old)) 0 ≡ cond b n (count_in old other)
+count_put old new origin n put other = ap (λ (o : Option ℕ). unwrap_or o 0) (put other) ∙ by (other == origin) where
+  by : (b : Bool) → unwrap_or (cond b (Some n) (value_at old other)) 0 ≡ cond b n (count_in old other)
   by true = refl
   by false = refl
-
--- another frame under one number
-pub origin_put : (old new : List (ℕ × ℕ)) (number origin : ℕ) → ((q : ℕ) → lookup (is_at (nat_cmp q)) new ≡ cond (is_at (nat_cmp number) q) (Some origin) (lookup (is_at (nat_cmp q)) old))
-    → (n : ℕ) → lookup (is_at (nat_cmp n)) new ≡ cond (n == number) (Some origin) (lookup (is_at (nat_cmp n)) old)
-origin_put old new number origin put n = put n ∙ ap (λ (b : Bool). cond b (Some origin) (lookup (is_at (nat_cmp n)) old)) (same_number number n)
 
 -- none at one origin
-pub count_gone : (old new : List (ℕ × ℕ)) (origin : ℕ) → ((q : ℕ) → lookup (is_at (nat_cmp q)) new ≡ cond (is_at (nat_cmp origin) q) None (lookup (is_at (nat_cmp q)) old))
+pub count_gone : (old new : Values ℕ) (origin : ℕ) → ((q : ℕ) → value_at new q ≡ cond (q == origin) None (value_at old q))
     → (other : ℕ) → count_in new other ≡ cond (other == origin) 0 (count_in old other)
-count_gone old new origin gone other = ap (λ (o : Option ℕ). unwrap_or o 0) (gone other ∙ ap (λ (b : Bool). cond b None (lookup (is_at (nat_cmp other)) old)) (same_number origin other)) ∙ by (other == origin) where
-  by : (b : Bool) → unwrap_or (cond b None (lookup (is_at (nat_cmp other)) old)) 0 ≡ cond b 0 (count_in old other)
+count_gone old new origin gone other = ap (λ (o : Option ℕ). unwrap_or o 0) (gone other) ∙ by (other == origin) where
+  by : (b : Bool) → unwrap_or (cond b None (value_at old other)) 0 ≡ cond b 0 (count_in old other)
   by true = refl
   by false = refl
 
-pub down_by : (old new : List (ℕ × ℕ)) (origin n : ℕ) → n ≡ count_in old origin - 1 → ((other : ℕ) → count_in new other ≡ cond (other == origin) n (count_in old other))
+-- counts that stay are as few as before
+pub few_kept : (old new : Values ℕ) (most : ℕ) → ((o : ℕ) → count_in old o ≤ most) → ((q : ℕ) → value_at new q ≡ value_at old q) → (o : ℕ) → count_in new o ≤ most
+few_kept old new most few same o = omega (arith, few o, ap (λ (v : Option ℕ). unwrap_or v 0) (same o))
+
+pub down_by : (old new : Values ℕ) (origin n : ℕ) → n ≡ count_in old origin - 1 → ((other : ℕ) → count_in new other ≡ cond (other == origin) n (count_in old other))
     → (other : ℕ) → count_in new other ≡ count_in old other - cond (other == origin) 1 0
 down_by old new origin n is put other = put other ∙ by (other == origin) refl where
   by : (b : Bool) → (other == origin) ≡ b → cond b n (count_in old other) ≡ count_in old other - cond b 1 0
   by true here = is ∙ ap (λ (k : ℕ). count_in old k - 1) (sym (eqb-true other origin here))
   by false away = omega arith
 
-pub up_by : (old new : List (ℕ × ℕ)) (origin n : ℕ) → n ≡ count_in old origin + 1 → ((other : ℕ) → count_in new other ≡ cond (other == origin) n (count_in old other))
+pub up_by : (old new : Values ℕ) (origin n : ℕ) → n ≡ count_in old origin + 1 → ((other : ℕ) → count_in new other ≡ cond (other == origin) n (count_in old other))
     → (other : ℕ) → count_in new other ≡ count_in old other + cond (other == origin) 1 0
 up_by old new origin n is put other = put other ∙ by (other == origin) refl where
   by : (b : Bool) → (other == origin) ≡ b → cond b n (count_in old other) ≡ count_in old other + cond b 1 0
@@ -60,14 +54,14 @@ up_by old new origin n is put other = put other ∙ by (other == origin) refl wh
   by false away = omega arith
 
 -- counts that do not grow are as few as before
-pub few_down : (old new : List (ℕ × ℕ)) (origin n most : ℕ) → n ≤ most → ((o : ℕ) → count_in old o ≤ most) → ((other : ℕ) → count_in new other ≡ cond (other == origin) n (count_in old other))
+pub few_down : (old new : Values ℕ) (origin n most : ℕ) → n ≤ most → ((o : ℕ) → count_in old o ≤ most) → ((other : ℕ) → count_in new other ≡ cond (other == origin) n (count_in old other))
     → (o : ℕ) → count_in new o ≤ most
 few_down old new origin n most h few put o = by (o == origin) (put o) (few o) where
   by : (b : Bool) → count_in new o ≡ cond b n (count_in old o) → count_in old o ≤ most → count_in new o ≤ most
   by true is g = omega (arith, is, h)
   by false is g = omega (arith, is, g)
 
-pub few_more : (counts : List (ℕ × ℕ)) (most : ℕ) → ((o : ℕ) → count_in counts o ≤ most) → (o : ℕ) → count_in counts o ≤ most + 1
+pub few_more : (counts : Values ℕ) (most : ℕ) → ((o : ℕ) → count_in counts o ≤ most) → (o : ℕ) → count_in counts o ≤ most + 1
 few_more counts most few o = omega (arith, few o)
 
 -- ---- the list
@@ -162,16 +156,19 @@ own_more (d ∷ ds) c none own = by (d.number == c.number) refl none (λ rest. o
 -- ---- the maps tell of the list
 
 -- no packet with this number is under way
-pub went_none : (maps : CopyMaps) (number : ℕ) (copies : List SeenCopy) → origin_under maps number ≡ None → TellsPackets maps copies → TellsPackets maps (without_copy number copies)
-went_none maps number copies none told = subst (λ (xs : List SeenCopy). TellsPackets maps xs) (sym (without_none number copies (sym (told.origins number) ∙ none))) told
+pub went_none : (old new : CopyMaps) (number : ℕ) → origin_under old number ≡ None → ((n : ℕ) → origin_under new n ≡ cond (n == number) None (origin_under old n)) → ((o : ℕ) → count_in new.counts o ≡ count_in old.counts o)
+    → (copies : List SeenCopy) → TellsPackets old copies → TellsPackets new (without_copy number copies)
+went_none old new number none origins counts copies told = record {
+  origins = λ n. origins n ∙ (ap (λ (x : Option ℕ). cond (n == number) None x) (told.origins n) ∙ sym (among_without number n copies told.own));
+  counts = λ o. counts o ∙ (told.counts o ∙ ap (copies_of o) (sym (without_none number copies (sym (told.origins number) ∙ none))));
+  own = own_without number copies told.own;
+}
 
-pub went_one : (old new : CopyMaps) (number gone : ℕ) → origin_under old number ≡ Some gone
-    → ((q : ℕ) → lookup (is_at (nat_cmp q)) new.origins ≡ cond (is_at (nat_cmp number) q) None (lookup (is_at (nat_cmp q)) old.origins))
+pub went_one : (old new : CopyMaps) (number gone : ℕ) → origin_under old number ≡ Some gone → ((n : ℕ) → origin_under new n ≡ cond (n == number) None (origin_under old n))
     → ((o : ℕ) → count_in new.counts o ≡ count_in old.counts o - cond (o == gone) 1 0)
     → (copies : List SeenCopy) → TellsPackets old copies → TellsPackets new (without_copy number copies)
 went_one old new number gone some origins counts copies told = record {
-  origins = λ n. origins n ∙ (ap (λ (b : Bool). cond b None (origin_under old n)) (same_number number n)
-      ∙ (ap (λ (x : Option ℕ). cond (n == number) None x) (told.origins n) ∙ sym (among_without number n copies told.own)));
+  origins = λ n. origins n ∙ (ap (λ (x : Option ℕ). cond (n == number) None x) (told.origins n) ∙ sym (among_without number n copies told.own));
   counts = λ o. omega (arith, counts o, told.counts o, copies_without number o gone copies (sym (told.origins number) ∙ some));
   own = own_without number copies told.own;
 }
@@ -267,8 +264,6 @@ told_aged maps number seen told = told
 
 pub ruleset repeated = (repeated_none, repeated_one)
 
-pub ruleset counts_down = (count_put, count_gone, down_by, few_down)
+pub ruleset counts_down = (count_put, count_gone, down_by, few_down, few_kept)
 
-pub ruleset counts_up = (count_put, up_by, few_down, few_more)
-
-pub ruleset origins_put = (origin_put)
+pub ruleset counts_up = (count_put, up_by, few_down, few_kept, few_more)

@@ -1,6 +1,8 @@
 pub mod CalmLemmas
 pub mod CopyLemmas
+pub mod NumberedLemmas
 pub mod OpenLemmas
 pub mod PeerEndLemmas
+pub mod PlaceLemmas
 pub mod RowLemmas
 pub mod SightLemmas

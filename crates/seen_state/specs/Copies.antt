@@ -1,26 +1,23 @@
 -- The packets under way, by their numbers and by the frames that they carry copies of.
 use Rattle.std.specs.Prelude.{◌≡◌, ◌≤◌, ◌+◌, ◌==◌, ℕ, Bool, false, List, [], ◌∷◌, Option, Some, None, unwrap_or, if◌then◌else◌}
-use Rattle.std.specs.BTreeMap.{is_at}
-use Rattle.std.specs.Map.{lookup}
-use Rattle.std.specs.Ordering.{nat_cmp}
 use Rattle.seen_network.specs.Seen.{SeenCopy, origin_among}
+use Rattle.seen_state.specs.Numbered.{Values, value_at}
 
 -- two maps of the packets under way, and how many have come
 pub record CopyMaps : Type 0 where
   -- the frame that a packet carries a copy of, by the packet's number
-  pub origins : List (ℕ × ℕ)
+  pub origins : Values ℕ
   -- how many copies of a frame are under way
-  pub counts : List (ℕ × ℕ)
+  pub counts : Values ℕ
   -- how many packets have come so far
   pub comings : ℕ
 
 -- the frame that a packet carries a copy of
 abbrev pub origin_under : CopyMaps → ℕ → Option ℕ
-origin_under maps number = lookup (is_at (nat_cmp number)) maps.origins
+origin_under maps number = value_at maps.origins number
 
--- how many copies of a frame are under way
-abbrev pub count_in : List (ℕ × ℕ) → ℕ → ℕ
-count_in counts origin = unwrap_or (lookup (is_at (nat_cmp origin)) counts) 0
+abbrev pub count_in : Values ℕ → ℕ → ℕ
+count_in counts origin = unwrap_or (value_at counts origin) 0
 
 -- no more copies of a frame than packets that came
 abbrev pub AreFew : CopyMaps → Type 0

@@ -1,5 +1,6 @@
 pub mod Calm
 pub mod Copies
+pub mod Numbered
 pub mod PeerEnd
 pub mod Placed
 pub mod SeenState

@@ -4,17 +4,17 @@ ghost use Rattle.seen_network.specs.Once.{has_seen, names_seen};
 ghost use Rattle.seen_network.specs.Seen.{Seen, SeenCopy, copy_comes, happened, origin_among, repeats, told_by_itself, without_copy};
 ghost use Rattle.seen_state.specs.Copies.{TellsPackets, copies_of, count_in, origin_under};
 
+use crate::numbered::Numbered;
 use net_base::{Entry, Event, NoMemory};
 use std::alloc::Global;
-use std::collections::BTreeMap;
 use std::marker::Model;
 
 /// The packets under way: of each by its number the frame that it carries a copy of, and how many copies of each frame there are. One
-/// is found, taken out and added in logarithmic time.
+/// is found, taken out and added at the place that its number tells, or in logarithmic time where numbers do not rise one by one.
 #[derive(Drop)]
 pub struct Copies {
-    origins: BTreeMap<u64, u64>,
-    counts: BTreeMap<u64, u64>,
+    origins: Numbered<u64>,
+    counts: Numbered<u64>,
     comings: u64,
 }
 
@@ -23,9 +23,9 @@ impl Model for Copies {
 
     ghost Value = { CopyMaps };
 
-    ghost view = { λ c. record { origins = c.origins.entries; counts = c.counts.entries; comings = c.comings } };
+    ghost view = { λ c. record { origins = c.origins; counts = c.counts; comings = c.comings } };
 
-    ghost invariant = { λ c. AreFew (record { origins = c.origins.entries; counts = c.counts.entries; comings = c.comings }) };
+    ghost invariant = { λ c. AreFew (record { origins = c.origins; counts = c.counts; comings = c.comings }) };
 }
 
 impl Copies {
@@ -36,8 +36,8 @@ impl Copies {
         ensures comings { result.comings ≡ 0 }
     {
         Copies {
-            origins: BTreeMap::new(alloc),
-            counts: BTreeMap::new(alloc),
+            origins: Numbered::new(alloc),
+            counts: Numbered::new(alloc),
             comings: 0,
         }
     }
@@ -53,7 +53,7 @@ impl Copies {
     pub fn origin(&self, number: u64) -> Option<u64>
         ensures { result ≡ origin_under self.now number }
     {
-        self.origins.get(&number).copied()
+        self.origins.get(number)
     }
 
     /// How many copies of a frame are under way.
@@ -61,8 +61,8 @@ impl Copies {
         ensures count { result ≡ count_in self.now.counts origin }
         ensures few { result ≤ self.now.comings }
     {
-        match self.counts.get(&origin) {
-            Some(count) => *count,
+        match self.counts.get(origin) {
+            Some(count) => count,
             None => 0,
         }
     }
@@ -73,7 +73,7 @@ impl Copies {
         ensures comings { self.new.comings ≡ self.old.comings }
         ensures told { OnOk result ((copies : List SeenCopy) → TellsPackets self.old copies → TellsPackets self.new (without_copy number copies)) }
     {
-        let Some(origin) = self.origins.remove(&number) else {
+        let Some(origin) = self.origins.take(number) else {
             return Ok(None);
         };
         self.count_down(origin)?;
@@ -89,12 +89,12 @@ impl Copies {
     {
         let count = self.count(origin);
         if count <= 1 {
-            self.counts.remove(&origin);
+            self.counts.take(origin);
             return Ok(());
         }
-        match self.counts.insert(origin, count - 1) {
-            Ok(_) => Ok(()),
-            Err(_) => Err(NoMemory),
+        match self.counts.put(origin, count - 1) {
+            Ok(()) => Ok(()),
+            Err(NoMemory) => Err(NoMemory),
         }
     }
 
@@ -112,15 +112,14 @@ impl Copies {
     }
 
     // The packet with a number carries a copy of a frame from now on.
-    #[tactic(auto, using(crate::proofs::CopyLemmas::origins_put))]
     fn put(&mut self, number: u64, origin: u64) -> Result<(), NoMemory>
         ensures counts { self.new.counts ≡ self.old.counts }
         ensures comings { self.new.comings ≡ self.old.comings }
         ensures origins { OnOk result ((n : ℕ) → origin_under self.new n ≡ (if n == number then Some origin else origin_under self.old n)) }
     {
-        match self.origins.insert(number, origin) {
-            Ok(_) => Ok(()),
-            Err(_) => Err(NoMemory),
+        match self.origins.put(number, origin) {
+            Ok(()) => Ok(()),
+            Err(NoMemory) => Err(NoMemory),
         }
     }
 
@@ -134,9 +133,9 @@ impl Copies {
     {
         let count = self.count(origin);
         self.comings += 1;
-        match self.counts.insert(origin, count + 1) {
-            Ok(_) => Ok(()),
-            Err(_) => Err(NoMemory),
+        match self.counts.put(origin, count + 1) {
+            Ok(()) => Ok(()),
+            Err(NoMemory) => Err(NoMemory),
         }
     }
 

@@ -6,7 +6,9 @@
 
 mod calm;
 mod copies;
+mod numbered;
 mod peer_end;
+mod row;
 mod seen_edge;
 mod seen_state;
 mod sight;
@@ -14,6 +16,7 @@ mod sizes;
 mod whole_pdu;
 
 pub use copies::Copies;
+pub use numbered::Numbered;
 pub use seen_state::SeenState;
 pub use sight::Sight;
 pub use sizes::Sizes;

@@ -2,10 +2,7 @@
 use Rattle.std.proofs.Common.{◌≡◌, ◌==◌, ◌<◌, ◌≤◌, ◌+◌, ◌&&◌, ◌||◌, ◌++◌, ◌∷◌, ◌∙◌, [], ℕ, Bool, true, false, List, Some, nat_lt, cond, refl, ap, sym, arith}
 use Rattle.std.proofs.lemmas.Bool.{eqb-true}
 use Rattle.std.proofs.lemmas.Bool.Decides.{nat_tests}
-use Rattle.std.specs.BTreeMap.{is_at}
 use Rattle.std.specs.List.{list_any}
-use Rattle.std.specs.Map.{lookup}
-use Rattle.std.specs.Ordering.{nat_cmp}
 use Rattle.net_values.proofs.BoolLemmas.{first_fails, or_none}
 use Rattle.net_values.proofs.NumberLemmas.{equal_turned, is_none}
 use Rattle.hvpls_spokes.specs.PortSet.{holds_port}
@@ -15,12 +12,13 @@ use Rattle.net_base.specs.declared.trace.entry.Entry.{Entry}
 use Rattle.net_base.specs.declared.trace.entry.Entry.TheVariants as entry
 use Rattle.net_base.specs.plan.Accepted.{IsWithinLimits}
 use Rattle.seen_network.specs.Once.{times_seen}
+use Rattle.seen_state.specs.Numbered.{Values, no_values, value_at}
 use Rattle.seen_state.specs.Placed.{IsPlaced}
 use Rattle.window_audit.specs.Exits.{HasExits, HasLeft, IsAtPort, LeftTwice, has_left, is_again, is_far, leavings_of, left_far}
 use Rattle.window_audit.specs.declared.leavings.Leavings.{Leavings}
 use Rattle.window_audit.proofs.SourceLemmas.{any_more}
 
-pub none_left : HasExits [] []
+pub none_left : HasExits no_values []
 none_left = record { at = λ o c. refl; beyond = λ o c h. refl; once = λ o h c. omega arith; again = λ o h. absurd (grind (arith, h)); far = λ o. refl }
 
 -- an entry of a plan within the limits
@@ -38,24 +36,28 @@ at_port plan (entry.Session edge peer name) limits placed = tt
 at_port plan (entry.Wire edge wire down) limits placed = tt
 at_port plan (entry.Pong edge wire sequence) limits placed = tt
 
+-- what has the same values has the same exits
+pub exits_kept : (old new : Values Leavings) (trace : List Entry) → ((n : ℕ) → value_at new n ≡ value_at old n) → HasExits old trace → HasExits new trace
+exits_kept old new trace same known = record {
+  at = λ o c. ap (λ l. has_left l c.0) (same o) ∙ known.at o c;
+  beyond = known.beyond;
+  once = λ o h c. known.once o (sym (ap is_again (same o)) ∙ h) c;
+  again = λ o h. known.again o (sym (ap is_again (same o)) ∙ h);
+  far = λ o. ap is_far (same o) ∙ known.far o;
+}
+
 -- ---- one frame more
 
-same_number : (a x : ℕ) → is_at (nat_cmp a) x ≡ (x == a)
-same_number a x = grind (arith, nat_tests)
-
-pub left_once : (at : CircuitId) (from hops : ℕ) (old new : List (ℕ × Leavings)) (first last : Leavings)
+pub left_once : (at : CircuitId) (from hops : ℕ) (old new : Values Leavings) (first last : Leavings)
     → ((c : ℕ) → holds_port first.at c ≡ has_left (leavings_of old from) c) → first.again ≡ is_again (leavings_of old from) → first.far ≡ is_far (leavings_of old from)
     → holds_port last.at at.0 ≡ true → ((c : ℕ) → (c ≡ at.0 → ⊥) → holds_port last.at c ≡ holds_port first.at c) → last.again ≡ first.again || holds_port first.at at.0 → last.far ≡ first.far || nat_lt 12 hops
-    → ((q : ℕ) → lookup (is_at (nat_cmp q)) new ≡ cond (is_at (nat_cmp from) q) (Some last) (lookup (is_at (nat_cmp q)) old))
+    → ((q : ℕ) → value_at new q ≡ cond (q == from) (Some last) (value_at old q))
     → HasLeft at from hops old new
 left_once at from hops old new first last first_at first_again first_far here others again far put = record {
-  at_is = λ o c. ap (λ l. has_left l c) (now o) ∙ at_by o c (o == from) refl (c == at.0) refl;
-  again_is = λ o. ap is_again (now o) ∙ again_by o (o == from) refl;
-  far_is = λ o. ap is_far (now o) ∙ far_by o (o == from) refl;
+  at_is = λ o c. ap (λ l. has_left l c) (put o) ∙ at_by o c (o == from) refl (c == at.0) refl;
+  again_is = λ o. ap is_again (put o) ∙ again_by o (o == from) refl;
+  far_is = λ o. ap is_far (put o) ∙ far_by o (o == from) refl;
 } where
-  now : (o : ℕ) → leavings_of new o ≡ cond (o == from) (Some last) (leavings_of old o)
-  now o = put o ∙ ap (λ b. cond b (Some last) (leavings_of old o)) (same_number from o)
-
   apart : (c : ℕ) → (c == at.0) ≡ false → c ≡ at.0 → ⊥
   apart c away same = grind (arith, nat_tests, away, same)
 
@@ -121,7 +123,7 @@ none_where_first a b h = ap (λ x. one_if (x && b)) h
 none_where_second : (a b : Bool) → a ≡ true → b ≡ false → one_if (a && b) ≡ 0
 none_where_second a b h g = ap (λ x. one_if (x && b)) h ∙ ap one_if g
 
-pub told_left : (at : CircuitId) (from hops : ℕ) (octets : List ℕ) (old new : List (ℕ × Leavings)) (trace : List Entry) → at.0 < 512
+pub told_left : (at : CircuitId) (from hops : ℕ) (octets : List ℕ) (old new : Values Leavings) (trace : List Entry) → at.0 < 512
     → HasLeft at from hops old new → HasExits old trace → HasExits new (trace ++ entry.Left at from hops octets ∷ [])
 told_left at from hops octets old new trace port left known = record {
   at = λ o c. left.at_is o c.0 ∙ (ap (λ b. cond (o == from && c.0 == at.0) true b) (known.at o c)
@@ -173,7 +175,7 @@ told_left at from hops octets old new trace port left known = record {
   again_by o twice false before true is false here = absurd (grind (arith, sym (by_this o twice before) ∙ (ap (λ x. x && has_left (leavings_of old o) at.0) is ∙ here)))
   again_by o twice false before false is y here = absurd (grind (arith, sym (by_this o twice before) ∙ ap (λ x. x && has_left (leavings_of old o) at.0) is))
 
-pub told_other : (e : Entry) (exits : List (ℕ × Leavings)) (trace : List Entry) → ((o : ℕ) (c : CircuitId) → times_seen o c (e ∷ []) ≡ 0) → ((o : ℕ) → left_far o e ≡ false)
+pub told_other : (e : Entry) (exits : Values Leavings) (trace : List Entry) → ((o : ℕ) (c : CircuitId) → times_seen o c (e ∷ []) ≡ 0) → ((o : ℕ) → left_far o e ≡ false)
     → HasExits exits trace → HasExits exits (trace ++ e ∷ [])
 told_other e exits trace none near known = record {
   at = λ o c. known.at o c ∙ ap (nat_lt 0) (sym (same o c));

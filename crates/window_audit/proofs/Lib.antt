@@ -1,5 +1,6 @@
 pub mod CalmLemmas
 pub mod ClosingLemmas
+pub mod DueLemmas
 pub mod EntryLemmas
 pub mod ExitLemmas
 pub mod LastingLemmas

@@ -11,6 +11,7 @@ use Rattle.net_base.specs.plan.Accepted.{IsWithinLimits}
 use Rattle.seen_network.specs.Once.{has_seen, spares_seen}
 use Rattle.seen_network.specs.Seen.{Seen, happened_or, is_idle_behind, nothing_seen, seen_from, seen_in}
 use Rattle.seen_network.proofs.ReadLemmas.{seen_on}
+use Rattle.seen_state.specs.Numbered.{Values}
 use Rattle.seen_state.specs.SeenState.{Knows}
 use Rattle.seen_state.specs.declared.seen_state.SeenState.{SeenState}
 use Rattle.seen_windows.specs.EventEntries.{HasNoEvent, event_of_entry, tells_idle}
@@ -183,7 +184,7 @@ first_of_all before (entry.Pong edge wire sequence) es is one = one.0
 
 -- ---- the whole
 
-pub seen_first : (plan : Plan) (trace entries : List Entry) (e : Entry) (es : List Entry) (old new : Past) (sources2 : List Source) (exits2 : List (ℕ × Leavings)) → entries ≡ e ∷ es
+pub seen_first : (plan : Plan) (trace entries : List Entry) (e : Entry) (es : List Entry) (old new : Past) (sources2 : List Source) (exits2 : Values Leavings) → entries ≡ e ∷ es
     → event_of_entry e ≡ None → HasNoEvent es → AreOfOne trace entries
     → HasSeen plan trace old
     → new.place ≡ old.place + length entries
@@ -201,7 +202,7 @@ seen_first plan trace entries e es old new sources2 exits2 split is bare one see
       state = knows (seen_in []) at_first.state;
       calm = calm (seen_in []) at_first.calm;
       sources = subst (λ (s : List Source). HasSources plan s entries) (sym same_sources) (sources [] at_first.sources);
-      exits = subst (λ (x : List (ℕ × Leavings)). HasExits x entries) (sym same_exits) (exits [] at_first.exits);
+      exits = subst (λ (x : Values Leavings). HasExits x entries) (sym same_exits) (exits [] at_first.exits);
       lasting = subst (λ (m : List (ℕ × List Window)). AreLasting plan entries (windows_at m)) (sym lasting) (still_none plan entries (windows_at old.lasting) whole at_first.lasting);
       owed = subst (AreOwed plan entries) (sym owed) (owes_none plan entries old.owed.items whole at_first.owed);
     }) where
@@ -214,7 +215,7 @@ seen_first plan trace entries e es old new sources2 exits2 split is bare one see
       at_first : HasSeen plan [] old
       at_first = subst (λ (t : List Entry). HasSeen plan t old) first seen
 
-pub seen_event : (plan : Plan) (trace entries : List Entry) (e : Entry) (es : List Entry) (event : Event) (old new : Past) (sources2 : List Source) (exits2 : List (ℕ × Leavings))
+pub seen_event : (plan : Plan) (trace entries : List Entry) (e : Entry) (es : List Entry) (event : Event) (old new : Past) (sources2 : List Source) (exits2 : Values Leavings)
     → entries ≡ e ∷ es → event_of_entry e ≡ Some event
     → HasSeen plan trace old
     → new.place ≡ old.place + length entries
@@ -229,7 +230,7 @@ seen_event plan trace entries e es event old new sources2 exits2 split is seen p
   state = has.state;
   calm = has.calm;
   sources = subst (λ (s : List Source). HasSources plan s (trace ++ entries)) (sym same_sources) (sources trace seen.sources);
-  exits = subst (λ (x : List (ℕ × Leavings)). HasExits x (trace ++ entries)) (sym same_exits) (exits trace seen.exits);
+  exits = subst (λ (x : Values Leavings). HasExits x (trace ++ entries)) (sym same_exits) (exits trace seen.exits);
   lasting = has.lasting;
   owed = has.owed;
 } where

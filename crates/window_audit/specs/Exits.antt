@@ -1,19 +1,17 @@
 -- Where frames left, and how often.
 use Rattle.std.specs.Prelude.{◌≡◌, ◌≤◌, ◌<◌, ◌==◌, ◌&&◌, ◌||◌, nat_lt, ℕ, Bool, true, false, List, Option, Some, None, if◌then◌else◌}
-use Rattle.std.specs.BTreeMap.{is_at}
 use Rattle.std.specs.List.{list_any}
-use Rattle.std.specs.Map.{lookup}
-use Rattle.std.specs.Ordering.{nat_cmp}
 use Rattle.hvpls_spokes.specs.PortSet.{holds_port}
 use Rattle.net_base.specs.declared.plan.places.CircuitId.{CircuitId}
 use Rattle.net_base.specs.declared.trace.entry.Entry.{Entry}
 use Rattle.net_base.specs.declared.trace.entry.Entry.TheVariants.{Left}
 use Rattle.seen_network.specs.Once.{times_seen}
+use Rattle.seen_state.specs.Numbered.{Values, value_at}
 use Rattle.window_audit.specs.declared.leavings.Leavings.{Leavings}
 
 -- where the copies of a frame left, by the number under which it entered
-abbrev pub leavings_of : List (ℕ × Leavings) → ℕ → Option Leavings
-leavings_of exits origin = lookup (is_at (nat_cmp origin)) exits
+abbrev pub leavings_of : Values Leavings → ℕ → Option Leavings
+leavings_of exits origin = value_at exits origin
 
 -- one left at the circuit
 abbrev pub has_left : Option Leavings → ℕ → Bool
@@ -41,7 +39,7 @@ pub record LeftTwice (origin : ℕ) (trace : List Entry) : Type 0 where
   pub twice : 2 ≤ times_seen origin circuit trace
 
 -- they tell where each frame left, whether it left twice at one circuit, and whether it had come too far
-pub record HasExits (exits : List (ℕ × Leavings)) (trace : List Entry) : Type 0 where
+pub record HasExits (exits : Values Leavings) (trace : List Entry) : Type 0 where
   pub at : (origin : ℕ) (circuit : CircuitId) → has_left (leavings_of exits origin) circuit.0 ≡ nat_lt 0 (times_seen origin circuit trace)
   pub beyond : (origin : ℕ) (circuit : CircuitId) → 512 ≤ circuit.0 → times_seen origin circuit trace ≡ 0
   pub once : (origin : ℕ) → is_again (leavings_of exits origin) ≡ false → (circuit : CircuitId) → times_seen origin circuit trace ≤ 1
@@ -54,7 +52,7 @@ IsAtPort (Left at from hops octets) = at.0 < 512
 IsAtPort e = Unit {0}
 
 -- a frame left once more
-pub record HasLeft (at : CircuitId) (from hops : ℕ) (old new : List (ℕ × Leavings)) : Type 0 where
+pub record HasLeft (at : CircuitId) (from hops : ℕ) (old new : Values Leavings) : Type 0 where
   pub at_is : (origin circuit : ℕ) → has_left (leavings_of new origin) circuit ≡ (if origin == from && circuit == at.0 then true else has_left (leavings_of old origin) circuit)
   pub again_is : (origin : ℕ) → is_again (leavings_of new origin) ≡ (is_again (leavings_of old origin) || (origin == from && has_left (leavings_of old origin) at.0))
   pub far_is : (origin : ℕ) → is_far (leavings_of new origin) ≡ (is_far (leavings_of old origin) || (origin == from && nat_lt 12 hops))

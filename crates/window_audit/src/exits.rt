@@ -6,23 +6,23 @@ ghost use Rattle.window_audit.specs.Exits.{HasExits, HasLeft, IsAtPort, has_left
 
 use crate::leavings::Leavings;
 use net_base::{CircuitId, Entry, NoMemory};
+use seen_state::Numbered;
 use std::alloc::Global;
-use std::collections::BTreeMap;
 use std::marker::Model;
 
 /// Where the copies of each frame left, by the number under which the frame entered.
 #[derive(Drop)]
 pub struct Exits {
-    frames: BTreeMap<u64, Leavings>,
+    frames: Numbered<Leavings>,
 }
 
 impl Model for Exits {
-    ghost use Rattle.std.specs.Prelude.{List, ℕ};
+    ghost use Rattle.seen_state.specs.Numbered.{Values};
     ghost use Rattle.window_audit.specs.declared.leavings.Leavings.{Leavings as Left};
 
-    ghost Value = { List (ℕ × Left) };
+    ghost Value = { Values Left };
 
-    ghost view = { λ e. e.frames.entries };
+    ghost view = { λ e. e.frames };
 }
 
 impl Exits {
@@ -32,7 +32,7 @@ impl Exits {
         ensures { HasExits result [] }
     {
         Exits {
-            frames: BTreeMap::new(alloc),
+            frames: Numbered::new(alloc),
         }
     }
 
@@ -42,8 +42,8 @@ impl Exits {
         ensures again { result.again ≡ is_again (leavings_of self.now origin) }
         ensures far { result.far ≡ is_far (leavings_of self.now origin) }
     {
-        match self.frames.get(&origin) {
-            Some(leavings) => *leavings,
+        match self.frames.get(origin) {
+            Some(leavings) => leavings,
             None => Leavings::none(),
         }
     }
@@ -63,7 +63,7 @@ impl Exits {
             Entry::Did { .. } => Ok(()),
             Entry::Idle => Ok(()),
             Entry::Said { .. } => Ok(()),
-            Entry::In { .. } => Ok(()),
+            Entry::In { number, .. } => self.enter(number),
             Entry::Sent { .. } => Ok(()),
             Entry::Copied { .. } => Ok(()),
             Entry::Aged { .. } => Ok(()),
@@ -74,6 +74,14 @@ impl Exits {
         }
     }
 
+    // A frame enters; where frames are numbered as they enter it gets the next place.
+    #[tactic(auto, using(crate::proofs::ExitLemmas::exits_kept))]
+    fn enter(&mut self, number: u64) -> Result<(), NoMemory>
+        ensures { OnOk result ((trace : List Told) → HasExits self.old trace → HasExits self.new trace) }
+    {
+        self.frames.reach(number, 1)
+    }
+
     // A copy of a frame left.
     #[tactic(auto, using(crate::proofs::ExitLemmas::left_once))]
     fn leave(&mut self, circuit: CircuitId, origin: u64, hops: u64) -> Result<(), NoMemory>
@@ -82,9 +90,9 @@ impl Exits {
     {
         let mut leavings = self.leavings(origin);
         leavings.leave(circuit.0, hops);
-        match self.frames.insert(origin, leavings) {
-            Ok(_) => Ok(()),
-            Err(_) => Err(NoMemory),
+        match self.frames.set(origin, leavings) {
+            Ok(()) => Ok(()),
+            Err(NoMemory) => Err(NoMemory),
         }
     }
 }

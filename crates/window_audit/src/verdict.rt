@@ -1,8 +1,9 @@
 //! Whether frames were seen exactly once.
-ghost use Rattle.std.specs.Prelude.{◌≡◌, List};
+ghost use Rattle.std.specs.Prelude.{◌≡◌, ◌≢◌, ◌<◌, ℕ, false, List};
+ghost use Rattle.hvpls_spokes.specs.PortSet.{holds_port};
 ghost use Rattle.net_base.specs.{declared.trace.entry.Entry.{Entry as Told}, plan.Accepted.{IsWithinLimits}};
 ghost use Rattle.seen_windows.specs.Verdict.{IsFirstOwed};
-ghost use Rattle.window_audit.specs.{Exits.{HasExits}, Verdict.{AgreeOrDiffer, Judges, earlier}};
+ghost use Rattle.window_audit.specs.{Exits.{HasExits}, Verdict.{AgreeOrDiffer, Judges, earlier, is_owed_at}};
 
 use crate::exits::Exits;
 use hvpls_spokes::PortSet;
@@ -45,8 +46,45 @@ pub(crate) fn is_served(exits: &Exits, plan: &Plan, window: &Window) -> bool
     is_at_sites(plan, &window.sites, &leavings.at)
 }
 
-// Whether a frame left at those sites that are circuits of the plan, and at no other circuit.
+// Whether a frame left at those sites that are circuits of the plan, and at no other circuit. Where it did the two sets are the same,
+// which takes a walk over the plan's circuits alone.
+#[tactic(auto, using(crate::proofs::DueLemmas::same_agree))]
 fn is_at_sites(plan: &Plan, sites: &PortSet, at: &PortSet) -> bool
+    ensures { AgreeOrDiffer plan.now sites.now at.now result }
+{
+    if *at == due(plan, sites) {
+        return true;
+    }
+    is_at_each(plan, sites, at)
+}
+
+// Those sites that are circuits of the plan.
+#[tactic(auto, using(crate::proofs::DueLemmas::due_steps))]
+fn due(plan: &Plan, sites: &PortSet) -> PortSet
+    ensures { (c : ℕ) → c < 512 → holds_port result c ≡ is_owed_at plan.now sites.now c }
+{
+    let mut due = PortSet::empty();
+    let count = plan.circuits.len().min(512) as u16;
+    for circuit in 0..count {
+        put_due(&mut due, sites, circuit);
+    }
+    due
+}
+
+// Puts a circuit among those where a frame is due, where it is a site.
+fn put_due(due: &mut PortSet, sites: &PortSet, circuit: u16)
+    requires port { circuit < 512 }
+    requires new { holds_port due.old circuit ≡ false }
+    ensures here { holds_port due.new circuit ≡ holds_port sites.now circuit }
+    ensures others { (c : ℕ) → c ≢ circuit → holds_port due.new c ≡ holds_port due.old c }
+{
+    if sites.contains(circuit) {
+        due.insert(circuit);
+    }
+}
+
+// The same by a walk over all ports.
+fn is_at_each(plan: &Plan, sites: &PortSet, at: &PortSet) -> bool
     ensures { AgreeOrDiffer plan.now sites.now at.now result }
 {
     for circuit in 0..512 {

@@ -1,4 +1,4 @@
--- A frame that left is counted; any other entry has no frame leave.
+-- A frame that left is counted; by any other entry no frame leaves.
 use Rattle.std.proofs.Common.{◌≡◌, ◌++◌, ◌∷◌, [], false, refl, subst, sym}
 use Rattle.std.proofs.lemmas.Result.{on_ok_weaker}
 use Rattle.net_base.specs.declared.trace.entry.Entry.{Entry}
@@ -27,8 +27,11 @@ returns-in-Said c = λ trace has. told_other c.args.entry.now c.args.self.now tr
     (λ o. subst (λ (e : Entry). left_far o e ≡ false) (sym c.in-Said.is) refl) has
 
 pub returns-in-In : goal.returns-in-In
-returns-in-In c = λ trace has. told_other c.args.entry.now c.args.self.now trace (λ o at. subst (λ (e : Entry). times_seen o at (e ∷ []) ≡ 0) (sym c.in-In.is) refl)
-    (λ o. subst (λ (e : Entry). left_far o e ≡ false) (sym c.in-In.is) refl) has
+returns-in-In c =
+    on_ok_weaker c.enter.result
+    (λ kept. λ trace has. told_other c.args.entry.now c.enter.new.self trace (λ o at. subst (λ (e : Entry). times_seen o at (e ∷ []) ≡ 0) (sym c.in-In.is) refl)
+    (λ o. subst (λ (e : Entry). left_far o e ≡ false) (sym c.in-In.is) refl) (kept trace has))
+    c.enter.ensures
 
 pub returns-in-Sent : goal.returns-in-Sent
 returns-in-Sent c = λ trace has. told_other c.args.entry.now c.args.self.now trace (λ o at. subst (λ (e : Entry). times_seen o at (e ∷ []) ≡ 0) (sym c.in-Sent.is) refl)
