@@ -1,5 +1,5 @@
 //! The frames that entered, found by what they are.
-ghost use Rattle.std.specs.Prelude.{◌≡◌, [], true, OnOk};
+ghost use Rattle.std.specs.Prelude.{◌≡◌, ◌++◌, [], true, OnOk};
 ghost use Rattle.trace_audit.specs.Arrivals.{entered_of, has_come, with_came};
 
 use crate::came::Came;
@@ -33,23 +33,23 @@ impl Arrivals {
         }
     }
 
-    /// Whether this frame entered under its number, in its service. Where frames are numbered as they enter it stands at the place that
-    /// its number tells, and its octets need no hash.
+    /// Whether this frame entered under its number, in its service.
     pub fn has(&self, came: &Came) -> bool
         ensures { result ≡ has_come self.now (entered_of came.now) }
     {
-        self.is_at_its_place(came) || self.set.contains(came)
+        self.set.contains(came)
     }
 
-    // Whether this frame entered, so many frames before it as its number tells.
-    fn is_at_its_place(&self, came: &Came) -> bool
-        ensures { result ≡ true → has_come self.now (entered_of came.now) ≡ true }
+    /// Whether a frame, which is told in two parts, is seen to have entered under its number and in its service, as the one that stands at
+    /// the place that the number tells. It does where frames are numbered as they enter; no octet is copied then, and none is hashed.
+    pub fn shows(&self, number: u64, service: u16, front: &[u8], back: &[u8]) -> bool
+        ensures { result ≡ true → has_come self.now (record { number = number; service = service; frame = front.now ++ back.now }) ≡ true }
     {
-        if came.number == 0 {
+        if number == 0 {
             return false;
         }
-        match self.set.get_index(came.number as usize - 1) {
-            Some(kept) => came == kept,
+        match self.set.get_index(number as usize - 1) {
+            Some(kept) => is_came(kept, number, service, front, back),
             None => false,
         }
     }
@@ -61,4 +61,25 @@ impl Arrivals {
         self.set.insert(came)?;
         Ok(())
     }
+}
+
+// Whether a frame that entered has this number, this service and these two parts.
+fn is_came(kept: &Came, number: u64, service: u16, front: &[u8], back: &[u8]) -> bool
+    ensures { result ≡ true → entered_of kept.now ≡ record { number = number; service = service; frame = front.now ++ back.now } }
+{
+    kept.number == number
+        && kept.service == service
+        && are_parts(front, back, kept.frame.as_slice())
+}
+
+// Whether a frame is seen to have these two parts.
+#[tactic(auto, using(crate::proofs::ArrivalLemmas::parts_joined))]
+fn are_parts(front: &[u8], back: &[u8], frame: &[u8]) -> bool
+    ensures { result ≡ true → frame.now ≡ front.now ++ back.now }
+{
+    if frame.len() < front.len() {
+        return false;
+    }
+    let (first, last) = frame.split_at(front.len());
+    first == front && last == back
 }

@@ -1,5 +1,5 @@
 //! What is known of a report behind the lines that were read.
-ghost use Rattle.std.specs.Prelude.{◌≡◌, ◌<◌, ◌+◌, ◌++◌, ◌^◌, IfOk, OnOk, option_map};
+ghost use Rattle.std.specs.Prelude.{◌≡◌, true, ◌<◌, ◌+◌, ◌++◌, ◌^◌, IfOk, OnOk, option_map};
 ghost use Rattle.net_base.specs.{plan.Places.{is_mesh_wire, service_of}, trace.Split.{is_inside, is_switching_point}};
 ghost use Rattle.trace_audit.specs.Judged.{begun, came_after, crosses, entered_at, first_line, has_one, inner_found, is_crossing, is_stray, judges, with_one};
 ghost use Rattle.trace_audit.specs.Arrivals.{entered_of};
@@ -91,6 +91,28 @@ fn came_at(
     }
 }
 
+// Whether a frame that leaves at a circuit is seen to have entered before, at a circuit of the same service. It takes no memory.
+fn shows_come(
+    plan: &Plan,
+    came: &Arrivals,
+    circuit: CircuitId,
+    origin: u64,
+    octets: &[u8],
+) -> bool
+    ensures { result ≡ true → has_one came.now (entered_at plan.now circuit origin octets.now) ≡ true }
+{
+    let Some(row) = plan.circuits.get(circuit.0 as usize) else {
+        return false;
+    };
+    let Some(service) = plan.services.get(row.service.0 as usize) else {
+        return false;
+    };
+    match inner_parts(row.tag, service.mtu, octets) {
+        Ok((front, back)) => came.shows(origin, row.service.0, front, back),
+        Err(_) => false,
+    }
+}
+
 // Whether a frame that leaves at a circuit entered before, at a circuit of the same service.
 fn has_come_in(
     alloc: Global,
@@ -102,6 +124,9 @@ fn has_come_in(
 ) -> Result<bool, NoMemory>
     ensures { IfOk result (λ come. come ≡ has_one came.now (entered_at plan.now circuit origin octets.now)) }
 {
+    if shows_come(plan, came, circuit, origin, octets) {
+        return Ok(true);
+    }
     match came_at(alloc, plan, circuit, origin, octets) {
         Ok(Some(left)) => Ok(came.has(&left)),
         Ok(None) => Ok(false),

@@ -3,5 +3,5 @@ use Rattle.trace_audit.specs.Arrivals.{Entered, entered_of, has_come}
 use Rattle.trace_audit.proofs.ArrivalLemmas.{any_key}
 use Rattle.trace_audit.proofs.arrivals.Arrivals.has.Goals as goal
 
-pub returns-else-is_at_its_place : goal.returns-else-is_at_its_place
-returns-else-is_at_its_place c = c.contains.ensures ∙ (any_key c.self.inside.set.keys c.args.came.now ∙ ap (λ (l : List Entered). has_come l (entered_of c.args.came.now)) c.self.view_is)
+pub returns : goal.returns
+returns c = c.contains.ensures ∙ (any_key c.self.inside.set.keys c.args.came.now ∙ ap (λ (l : List Entered). has_come l (entered_of c.args.came.now)) c.self.view_is)
