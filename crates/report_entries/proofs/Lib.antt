@@ -9,6 +9,7 @@ pub mod MarkLemmas
 pub mod NamedLemmas
 pub mod ReportFoundLemmas
 pub mod ReportLemmas
+pub mod SmallLemmas
 pub mod ToldLemmas
 pub mod TraceLemmas
 pub mod WordLemmas

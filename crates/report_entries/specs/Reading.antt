@@ -65,6 +65,10 @@ sequence_in word = decimal_from 0 65535 word
 abbrev pub is_small : ℕ → Bool
 is_small octet = not (is_ascii_uppercase octet)
 
+-- the octet, where it is no capital letter, and else one that is no digit
+abbrev pub small_or_none : ℕ → ℕ
+small_or_none octet = if is_small octet then octet else 0
+
 -- pairs of digits, without capital letters
 unfoldable pub digits_told : List ℕ → Option (List ℕ)
 digits_told word = if list_all is_small word then unhex word else None

@@ -4,6 +4,7 @@
 #![tactic(auto)]
 
 mod cut;
+mod digits;
 mod entry;
 mod entry_line;
 mod event;

@@ -1,22 +1,24 @@
 //! What single words say.
-ghost use Rattle.std.specs.{Prelude.{◌≡◌, ◌≤◌, IfOk}, List.{list_all}, Str.{bytes_eq}};
+ghost use Rattle.std.specs.{Prelude.{◌≡◌, ◌≤◌, IfOk}, Str.{bytes_eq}};
 ghost use Rattle.command_text.specs.Words.{decimal_from};
-ghost use Rattle.report_entries.specs.Reading.{Reads, arrival_in, cause_in, cause_rest_in, circuit_of_word, edge_of_word, ended_in, is_small, number_in, digits_told, sequence_in, state_in, switch_in, wire_end_in, wire_of_word};
+ghost use Rattle.report_entries.specs.Reading.{Reads, arrival_in, cause_in, cause_rest_in, circuit_of_word, edge_of_word, ended_in, number_in, digits_told, sequence_in, state_in, switch_in, wire_end_in, wire_of_word};
 
 use crate::Unread;
+use crate::digits::small_octets;
 use command_text::PlanNames;
 use command_text::decimal::decimal;
-use command_text::hex::decode;
 use net_base::{
     Arrival, CircuitId, Down, DropCause, EdgeId, NoMemory, Octets, Reason, StateName, WireId,
 };
 use std::alloc::Global;
 
-/// Whether a word is this one.
+/// Whether a word is this one. Most others have another length.
+#[inline(always)]
+#[tactic(auto, using(crate::proofs::WordLemmas::other_length))]
 pub fn is_word(word: &[u8], other: &str) -> bool
     ensures { result ≡ bytes_eq word.now other.now }
 {
-    word == other.as_bytes()
+    word.len() == other.len() && word == other.as_bytes()
 }
 
 /// The edge of a name.
@@ -99,26 +101,12 @@ pub fn sequence(word: &[u8]) -> Result<u16, Unread>
     }
 }
 
-// Whether no octet is a capital letter. It looks at each without a branch, so that many are looked at together.
-fn is_all_small(word: &[u8]) -> bool
-    ensures { result ≡ list_all is_small word.now }
-{
-    let mut small = true;
-    'looking: for i in 0..word.len() {
-        small = small & !word[i].is_ascii_uppercase();
-    }
-    small
-}
-
 /// Octets as pairs of hexadecimal digits, without capital letters.
-#[tactic(auto, unfolding(crate::specs::Reading::digits_told))]
+#[tactic(auto, using(crate::proofs::SmallLemmas::told_small))]
 pub fn octets(alloc: Global, word: &[u8]) -> Result<Octets, Unread>
     ensures { Reads result (digits_told word.now) }
 {
-    if !is_all_small(word) {
-        return Err(Unread::NoEntry);
-    }
-    match decode(alloc, word.len() / 2, word) {
+    match small_octets(alloc, word) {
         Ok(Some(octets)) => Ok(octets),
         Ok(None) => Err(Unread::NoEntry),
         Err(NoMemory) => Err(Unread::NoMemory),
