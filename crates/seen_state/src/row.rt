@@ -105,9 +105,7 @@ impl<V: Copy> Row<V> {
     fn wants(&self, number: u64) -> bool
         ensures { result ≡ true → self.now.first + length self.now.places + 1 < 2 ^ 64 }
     {
-        number < u64::MAX
-            && self.first <= number
-            && number - self.first >= self.places.len() as u64
+        number < u64::MAX && self.first <= number && number - self.first >= self.places.len() as u64
     }
 
     // A place more, without a value.

@@ -92,13 +92,7 @@ fn came_at(
 }
 
 // Whether a frame that leaves at a circuit is seen to have entered before, at a circuit of the same service. It takes no memory.
-fn shows_come(
-    plan: &Plan,
-    came: &Arrivals,
-    circuit: CircuitId,
-    origin: u64,
-    octets: &[u8],
-) -> bool
+fn shows_come(plan: &Plan, came: &Arrivals, circuit: CircuitId, origin: u64, octets: &[u8]) -> bool
     ensures { result ≡ true → has_one came.now (entered_at plan.now circuit origin octets.now) ≡ true }
 {
     let Some(row) = plan.circuits.get(circuit.0 as usize) else {
