@@ -5,6 +5,7 @@ pub mod EntryLemmas
 pub mod ExitLemmas
 pub mod LastingLemmas
 pub mod LossLemmas
+pub mod OpenLemmas
 pub mod OpenedLemmas
 pub mod OpeningLemmas
 pub mod PastLemmas

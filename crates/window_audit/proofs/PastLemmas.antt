@@ -21,7 +21,7 @@ use Rattle.seen_windows.proofs.EventLemmas.{idle_told, no_event_in}
 use Rattle.seen_windows.proofs.PastLemmas.{still_open, still_owed}
 use Rattle.window_audit.specs.CalmMemory.{Remembers}
 use Rattle.window_audit.specs.Exits.{HasExits}
-use Rattle.window_audit.specs.Lasting.{AreLasting, HasClosed, is_one_of, are_copies_over, was_flooded, windows_at, with_found}
+use Rattle.window_audit.specs.Lasting.{OpenWindows, AreLasting, HasClosed, is_one_of, are_copies_over, was_flooded, windows_at, with_found}
 use Rattle.window_audit.specs.Losses.{Follows}
 use Rattle.window_audit.specs.Past.{AreAtPorts, AreOfOne, ArePlaced, HasSeen, HasWindows}
 use Rattle.window_audit.specs.Sources.{HasSources}
@@ -59,7 +59,7 @@ seen_is done event rest idle bare is =
 
 pub passed_on : (plan : Plan) (done : List Entry) (event : Event) (rest : List Entry) (found : Option Window) (idle : Bool) (state1 state2 : SeenState) (calm2 : CalmMemory) (losses0 losses1
     losses2 losses3 : List ℕ)
-    (m0 m1 m2 m3 : List (ℕ × List Window)) (owed owed2 : List Window)
+    (m0 m1 m2 m3 : OpenWindows) (owed owed2 : List Window)
     → HasNoEvent rest → idle ≡ tells_idle rest
     → AreLasting plan done (windows_at m0) → AreOwed plan done owed
     → IsOpened plan done event rest found
@@ -203,7 +203,7 @@ seen_first plan trace entries e es old new sources2 exits2 split is bare one see
       calm = calm (seen_in []) at_first.calm;
       sources = subst (λ (s : List Source). HasSources plan s entries) (sym same_sources) (sources [] at_first.sources);
       exits = subst (λ (x : Values Leavings). HasExits x entries) (sym same_exits) (exits [] at_first.exits);
-      lasting = subst (λ (m : List (ℕ × List Window)). AreLasting plan entries (windows_at m)) (sym lasting) (still_none plan entries (windows_at old.lasting) whole at_first.lasting);
+      lasting = subst (λ (m : OpenWindows). AreLasting plan entries (windows_at m)) (sym lasting) (still_none plan entries (windows_at old.lasting) whole at_first.lasting);
       owed = subst (AreOwed plan entries) (sym owed) (owes_none plan entries old.owed.items whole at_first.owed);
     }) where
       first : trace ≡ []

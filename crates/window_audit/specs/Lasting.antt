@@ -8,12 +8,28 @@ use Rattle.net_base.specs.declared.plan.Plan.{Plan}
 use Rattle.net_base.specs.declared.trace.entry.Entry.{Entry}
 use Rattle.seen_network.specs.Once.{has_seen}
 use Rattle.seen_network.specs.Seen.{Seen, seen_in}
+use Rattle.seen_state.specs.Numbered.{Values, value_at}
 use Rattle.seen_windows.specs.Past.{AmongWindows, AreWindowsOpen, flooded_to}
 use Rattle.seen_windows.specs.declared.window.Window.{Window}
 
+pub record OpenWindows : Type 0 where
+  -- the first window of each frame
+  pub firsts : Values Window
+  -- those behind it
+  pub others : List (ℕ × List Window)
+
+-- the windows of a frame behind its first one
+abbrev pub others_at : List (ℕ × List Window) → ℕ → List Window
+others_at others origin = unwrap_or (lookup (is_at (nat_cmp origin)) others) []
+
+-- a first window, where there is one, and those behind it
+abbrev pub with_first : Option Window → List Window → List Window
+with_first None windows = windows
+with_first (Some window) windows = window ∷ windows
+
 -- those of a frame
-abbrev pub windows_at : List (ℕ × List Window) → ℕ → List Window
-windows_at windows origin = unwrap_or (lookup (is_at (nat_cmp origin)) windows) []
+abbrev pub windows_at : OpenWindows → ℕ → List Window
+windows_at windows origin = with_first (value_at windows.firsts origin) (others_at windows.others origin)
 
 -- with one more, where one is found
 abbrev pub with_found : Option Window → (ℕ → List Window) → ℕ → List Window

@@ -3,7 +3,7 @@ ghost use Rattle.std.specs.{Prelude.{◌≡◌, ◌++◌, ◌∷◌, [], List as
 ghost use Rattle.net_base.specs.{declared.plan.Plan.{Plan}, declared.trace.entry.Entry.{Entry}};
 ghost use Rattle.seen_network.specs.{Once.{is_sourced_by}, Seen.{Seen}};
 ghost use Rattle.seen_state.specs.SeenState.{Knows};
-ghost use Rattle.window_audit.specs.{Lasting.{HasClosed, are_copies_over, was_flooded, windows_at}, Sources.{HasSources}};
+ghost use Rattle.window_audit.specs.{Lasting.{HasClosed, are_copies_over, was_flooded, windows_at, with_first}, Sources.{HasSources}};
 
 use crate::lasting::Lasting;
 use crate::sources::Sources;
@@ -42,7 +42,35 @@ fn close_one(
         return Ok(());
     }
     let windows = lasting.take(origin);
-    owe(owed, sources, windows.as_slice())
+    owe_all(owed, sources, windows.first, windows.others.as_slice())
+}
+
+// Of the windows of a frame those are owed that were flooded.
+fn owe_all(
+    owed: &mut Vec<Window>,
+    sources: &Sources,
+    first: Option<Window>,
+    others: &[Window],
+) -> Result<(), NoMemory>
+    ensures { OnOk result ((plan : Plan) (trace : Items Entry) → HasSources plan sources.now trace → owed.new.items ≡ owed.old.items ++ filter (was_flooded plan trace) (with_first first others.now)) }
+{
+    match first {
+        Some(window) => owe_both(owed, sources, &window, others),
+        None => owe(owed, sources, others),
+    }
+}
+
+// The same, where there is a first one.
+fn owe_both(
+    owed: &mut Vec<Window>,
+    sources: &Sources,
+    first: &Window,
+    others: &[Window],
+) -> Result<(), NoMemory>
+    ensures { OnOk result ((plan : Plan) (trace : Items Entry) → HasSources plan sources.now trace → owed.new.items ≡ owed.old.items ++ filter (was_flooded plan trace) (first.now ∷ others.now)) }
+{
+    owe_one(owed, sources, first)?;
+    owe(owed, sources, others)
 }
 
 // Of these windows those are owed that were flooded.

@@ -18,6 +18,7 @@ mod past;
 mod source;
 mod sources;
 mod spared;
+mod taken;
 mod verdict;
 mod windows;
 
