@@ -25,6 +25,7 @@ fn said<'a>(plan: &'a Plan, from: EdgeId, to: EdgeId, octets: &'a [u8]) -> [Line
 }
 
 // Puts the line of a frame that entered.
+#[inline(always)]
 fn put_entered<K: Sink>(
     page: &mut Page,
     sink: &mut K,
@@ -41,6 +42,7 @@ fn put_entered<K: Sink>(
 }
 
 // Puts the line of a frame that left.
+#[inline(always)]
 fn put_left<K: Sink>(
     page: &mut Page,
     sink: &mut K,
@@ -59,6 +61,7 @@ fn put_left<K: Sink>(
 }
 
 // Puts the line of a packet that was sent.
+#[inline(always)]
 fn put_sent<K: Sink>(page: &mut Page, sink: &mut K, sent: &SentWords<'_>) -> Result<(), Failed>
     ensures { PutsOn K.taken K.faults page.old page.new sink.old sink.new result (line_of (sent_words sent.now)) }
 {
@@ -126,8 +129,8 @@ fn pong(plan: &Plan, at: EdgeId, of: WireId, sequence: u16) -> [LineWord<'_>; 3]
 
 /// Puts the line of an entry, in the words of the plan. A place outside the plan is written as the empty text.
 ///
-/// Events and frames come first, since a long trace has little else, and their words are put one by one: those of the other kinds lie on
-/// the stack, and room for all of them would be made clear for each line.
+/// Events, frames and packets come first, since a long trace has little else, and their words are put one by one where the kind is known:
+/// those of the other kinds lie on the stack, and room for all of them would be made clear for each line.
 pub fn put_entry<'a, K: Sink>(
     page: &mut Page,
     sink: &mut K,

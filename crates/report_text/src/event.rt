@@ -29,6 +29,7 @@ pub fn put_event<K: Sink>(
 }
 
 // Puts the line of a frame that came.
+#[inline(always)]
 fn put_frame<K: Sink>(
     page: &mut Page,
     sink: &mut K,
@@ -43,6 +44,7 @@ fn put_frame<K: Sink>(
 }
 
 // Puts the line of a packet that arrived.
+#[inline(always)]
 fn put_arrival<K: Sink>(page: &mut Page, sink: &mut K, packet: u64) -> Result<(), Failed>
     ensures { PutsOn K.taken K.faults page.old page.new sink.old sink.new result (line_of (codes ">" ∷ codes "arrive" ∷ decimal packet ∷ [])) }
 {
