@@ -1,4 +1,6 @@
 //! Why a report is not read.
+ghost use Rattle.std.specs.Prelude.{◌≡◌};
+ghost use Rattle.report_entries.specs.declared.report_fault.ReportFault.TheVariants as fault;
 
 use net_base::NoMemory;
 
@@ -12,9 +14,6 @@ pub enum ReportFault {
 }
 
 impl From<NoMemory> for ReportFault {
-    ghost use Rattle.std.specs.Prelude.{◌≡◌};
-    ghost use Rattle.report_entries.specs.declared.report_fault.ReportFault.TheVariants as fault;
-
     ghost from_gives = { λ _ e. e ≡ fault.NoMemory };
 
     fn from(_: NoMemory) -> Self {

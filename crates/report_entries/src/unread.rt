@@ -1,4 +1,6 @@
 //! Why a line is not read.
+ghost use Rattle.std.specs.Prelude.{◌≡◌};
+ghost use Rattle.report_entries.specs.declared.unread.Unread.TheVariants as unread;
 
 use net_base::NoMemory;
 use std::alloc::{AllocError, AllocFailed};
@@ -13,9 +15,6 @@ pub enum Unread {
 }
 
 impl From<NoMemory> for Unread {
-    ghost use Rattle.std.specs.Prelude.{◌≡◌};
-    ghost use Rattle.report_entries.specs.declared.unread.Unread.TheVariants as unread;
-
     ghost from_gives = { λ _ e. e ≡ unread.NoMemory };
 
     fn from(_: NoMemory) -> Self {
@@ -24,9 +23,6 @@ impl From<NoMemory> for Unread {
 }
 
 impl From<AllocError> for Unread {
-    ghost use Rattle.std.specs.Prelude.{◌≡◌};
-    ghost use Rattle.report_entries.specs.declared.unread.Unread.TheVariants as unread;
-
     ghost from_gives = { λ _ e. e ≡ unread.NoMemory };
 
     fn from(_: AllocError) -> Self {
@@ -35,9 +31,6 @@ impl From<AllocError> for Unread {
 }
 
 impl<T: Drop> From<AllocFailed<T>> for Unread {
-    ghost use Rattle.std.specs.Prelude.{◌≡◌};
-    ghost use Rattle.report_entries.specs.declared.unread.Unread.TheVariants as unread;
-
     ghost from_gives = { λ _ e. e ≡ unread.NoMemory };
 
     fn from(_: AllocFailed<T>) -> Self {
