@@ -15,18 +15,18 @@ abbrev pub has_place : {V : Type 0} → Places V → ℕ → Bool
 has_place row number = nat_le row.first number && nat_lt (number - row.first) (length row.places)
 
 -- the value at the place of a number, where the first place is that of this one
-abbrev pub placed_from : {V : Type 0} → ℕ → List (Option V) → ℕ → Option V
-placed_from first [] number = None
-placed_from first (place ∷ places) number = if number == first then place else placed_from (first + 1) places number
+abbrev pub value_placed : {V : Type 0} → ℕ → List (Option V) → ℕ → Option V
+value_placed first [] number = None
+value_placed first (place ∷ places) number = if number == first then place else value_placed (first + 1) places number
 
 abbrev pub placed_at : {V : Type 0} → Places V → ℕ → Option V
-placed_at row number = placed_from row.first row.places number
+placed_at row number = value_placed row.first row.places number
 
 -- the first place has no value
-abbrev pub starts_empty : {V : Type 0} → List (Option V) → Bool
-starts_empty [] = false
-starts_empty (None ∷ places) = true
-starts_empty (Some value ∷ places) = false
+abbrev pub starts_vacant : {V : Type 0} → List (Option V) → Bool
+starts_vacant [] = false
+starts_vacant (None ∷ places) = true
+starts_vacant (Some value ∷ places) = false
 
 pub record Values (V : Type 0) : Type 0 where
   pub row : Places V

@@ -1,6 +1,6 @@
 //! Values at the places of their numbers.
 ghost use Rattle.std.specs.Prelude.{◌≡◌, ◌==◌, ◌<◌, ◌+◌, ◌^◌, ℕ, [], true, length, if◌then◌else◌};
-ghost use Rattle.seen_state.specs.Numbered.{has_place, placed_at, starts_empty};
+ghost use Rattle.seen_state.specs.Numbered.{has_place, placed_at, starts_vacant};
 
 use net_base::NoMemory;
 use std::alloc::Global;
@@ -124,14 +124,14 @@ impl<V: Copy> Row<V> {
     fn trim(&mut self)
         ensures { (n : ℕ) → placed_at self.new n ≡ placed_at self.old n }
     {
-        'trimming: while self.starts_empty() {
+        'trimming: while self.starts_vacant() {
             self.drop_first();
         }
     }
 
     // Whether the first place has no value.
-    fn starts_empty(&self) -> bool
-        ensures { result ≡ starts_empty self.now.places }
+    fn starts_vacant(&self) -> bool
+        ensures { result ≡ starts_vacant self.now.places }
     {
         match self.places.front() {
             Some(None) => true,
@@ -142,7 +142,7 @@ impl<V: Copy> Row<V> {
     // The first place goes.
     #[tactic(auto, using(crate::proofs::PlaceLemmas::place_dropped))]
     fn drop_first(&mut self)
-        requires { starts_empty self.old.places ≡ true }
+        requires { starts_vacant self.old.places ≡ true }
         ensures kept { (n : ℕ) → placed_at self.new n ≡ placed_at self.old n }
         ensures fewer { length self.new.places + 1 ≡ length self.old.places }
     {
