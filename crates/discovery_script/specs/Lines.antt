@@ -1,29 +1,27 @@
 -- The lines of a script of Hellos and events (RFC 5036 section 2.4.2) by their words.
-use Rattle.std.specs.Prelude.{◌+◌, ◌-◌, ◌^◌, ◌||◌, codes, drop, ℕ, Bool, List, [], ◌∷◌, Result, Ok, Err, if◌then◌else◌}
+use Rattle.std.specs.Prelude.{◌+◌, ◌-◌, ◌^◌, ◌||◌, codes, drop, ℕ, Bool, List, Result, Ok, Err, if◌then◌else◌}
 use Rattle.std.specs.Str.{bytes_eq}
 use Rattle.command_text.specs.declared.command.Command.{Command}
 use Rattle.command_text.specs.declared.plan_names.PlanNames.{PlanNames}
 use Rattle.command_text.specs.declared.scenario_fault.ScenarioFault.{ScenarioFault}
 use Rattle.command_text.specs.declared.scenario_fault.ScenarioFault.TheVariants.{BadWord}
 use Rattle.command_text.specs.Events.{command_in}
-use Rattle.command_text.specs.Names.{place_in}
 use Rattle.command_text.specs.Words.{decimal_from, first_word}
 use Rattle.script_text.specs.declared.script_fault.ScriptFault.{ScriptFault}
 use Rattle.script_text.specs.declared.script_fault.ScriptFault.TheVariants.{Bad}
-use Rattle.script_text.specs.Script.{script, spaced_words}
+use Rattle.script_text.specs.Script.{spaced_words}
 use Rattle.discovery_script.specs.declared.script_line.ScriptLine.{ScriptLine}
 use Rattle.discovery_script.specs.declared.script_line.ScriptLine.TheVariants as line
 use Rattle.script_text.specs.Reading.{◌>>=◌}
-use Rattle.script_words.specs.Reading.{ends_behind, first_of, said_at}
+use Rattle.script_words.specs.Reading.{edges_said, ends_behind, first_of, said_at, script_said}
 
 -- hello E P N
 unfoldable pub hello_in : PlanNames → ℕ → List (List ℕ) → Result ScriptLine ScriptFault
 hello_in names number words = do
-  from ← said_at (place_in names.edges) number 2 words
-  to ← said_at (place_in names.edges) number 3 words
+  ends ← edges_said names.edges number words
   hold ← said_at (decimal_from 0 65535) number 4 words
   end ← ends_behind number 4 words
-  Ok (line.Hello (record { 0 = from }) (record { 0 = to }) hold)
+  Ok (line.Hello ends.0 ends.1 hold)
 
 -- bring K
 unfoldable pub bring_in : ℕ → List (List ℕ) → Result ScriptLine ScriptFault
@@ -35,10 +33,9 @@ bring_in number words = do
 -- open E P
 unfoldable pub open_in : PlanNames → ℕ → List (List ℕ) → Result ScriptLine ScriptFault
 open_in names number words = do
-  from ← said_at (place_in names.edges) number 2 words
-  to ← said_at (place_in names.edges) number 3 words
+  ends ← edges_said names.edges number words
   end ← ends_behind number 3 words
-  Ok (line.Open (record { 0 = from }) (record { 0 = to }))
+  Ok (line.Open ends.0 ends.1)
 
 -- tick
 unfoldable pub tick_line : ℕ → List (List ℕ) → Result ScriptLine ScriptFault
@@ -82,11 +79,6 @@ discovery_line_by names number word words =
 unfoldable pub discovery_line_of : PlanNames → ℕ → List (List ℕ) → Result ScriptLine ScriptFault
 discovery_line_of names number words = discovery_line_by names number (first_of words) words
 
--- the lines, the first of which has this number
-abbrev pub lines_of : PlanNames → ℕ → List (List (List ℕ)) → Result (List ScriptLine) ScriptFault
-lines_of names number [] = Ok []
-lines_of names number (words ∷ rest) = discovery_line_of names number words >>= (λ line. lines_of names (number + 1) rest >>= (λ lines. Ok (line ∷ lines)))
-
--- the lines that octets are, or the first place that is wrong: what is no word comes before a word that fits no line
+-- the lines that octets are, or the first place that is wrong
 unfoldable pub discovery_lines_in : PlanNames → List ℕ → Result (List ScriptLine) ScriptFault
-discovery_lines_in names octets = script octets >>= lines_of names 1
+discovery_lines_in names octets = script_said (discovery_line_of names) octets

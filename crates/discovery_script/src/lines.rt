@@ -8,7 +8,6 @@ ghost use Rattle.script_text.specs.Reading.{GivesScript};
 
 use crate::script_line::ScriptLine;
 use command_text::{is_same, words};
-use net_base::EdgeId;
 use scenario_text::{WordFault, read_command_with};
 use script_text::ScriptFault;
 use script_words::NumberedLine;
@@ -20,15 +19,10 @@ fn hello(line: NumberedLine<'_, '_>) -> Result<ScriptLine, ScriptFault>
     ensures exact { result ≡ hello_in line.entry.names.now line.entry.number line.entry.line.now }
     ensures planned { (plan : Plan) → line.entry.names.now ≡ names_of plan → IfOk result (IsDiscoveryLineOf plan) }
 {
-    let from = line.place(&line.names.edges, 2)?;
-    let to = line.place(&line.names.edges, 3)?;
+    let (from, to) = line.edges()?;
     let hold = line.decimal(0, 65535, 4)? as u16;
     line.ends(4)?;
-    Ok(ScriptLine::Hello {
-        from: EdgeId(from),
-        to: EdgeId(to),
-        hold,
-    })
+    Ok(ScriptLine::Hello { from, to, hold })
 }
 
 // `bring K`, with K from 1 to 18446744073709551615.
@@ -48,13 +42,9 @@ fn open(line: NumberedLine<'_, '_>) -> Result<ScriptLine, ScriptFault>
     ensures exact { result ≡ open_in line.entry.names.now line.entry.number line.entry.line.now }
     ensures planned { (plan : Plan) → line.entry.names.now ≡ names_of plan → IfOk result (IsDiscoveryLineOf plan) }
 {
-    let from = line.place(&line.names.edges, 2)?;
-    let to = line.place(&line.names.edges, 3)?;
+    let (from, to) = line.edges()?;
     line.ends(3)?;
-    Ok(ScriptLine::Open {
-        from: EdgeId(from),
-        to: EdgeId(to),
-    })
+    Ok(ScriptLine::Open { from, to })
 }
 
 // `tick`.

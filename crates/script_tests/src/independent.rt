@@ -5,7 +5,7 @@ use crate::plans::long_wire;
 use net_base::Plan;
 use std::alloc::Global;
 use std::process::Abort;
-use switchover_script::{ScriptFault, read_switch_script};
+use switchover_script::{ScriptFault, read_script};
 
 // Names of no edge; words that are missing or one too many; numbers that are too small or too large; a wire of three edges, and names of no
 // wire; first words of no line; and a word that is none behind one that fits no line.
@@ -44,7 +44,7 @@ fn fault_of(rt: &impl Abort, alloc: Global, plan: &Plan, text: &str) -> (u32, u3
     requires { IsChecked plan.now }
 {
     assert!(rt; text.len() < 1000);
-    match read_switch_script(alloc, plan, text.as_bytes()) {
+    match read_script(alloc, plan, text.as_bytes()) {
         Err(ScriptFault::Bad { line, word }) => (line, word),
         _ => (0, 0),
     }

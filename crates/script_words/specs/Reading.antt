@@ -1,7 +1,11 @@
 -- What the words of a line say.
 use Rattle.std.specs.Prelude.{◌-◌, ◌+◌, nat_le, ℕ, Bool, true, List, [], ◌∷◌, length, slice_get, Option, Some, None, Result, Ok, Err, if◌then◌else◌}
+use Rattle.net_base.specs.declared.plan.places.EdgeId.{EdgeId}
+use Rattle.command_text.specs.Names.{place_in}
 use Rattle.script_text.specs.declared.script_fault.ScriptFault.{ScriptFault}
 use Rattle.script_text.specs.declared.script_fault.ScriptFault.TheVariants.{Bad}
+use Rattle.script_text.specs.Reading.{◌>>=◌}
+use Rattle.script_text.specs.Script.{script}
 
 -- something that has to be there
 abbrev pub found_at : {A : Type 0} → ℕ → ℕ → Option A → Result A ScriptFault
@@ -25,3 +29,21 @@ ends_behind line number words = if nat_le (length words) number then Ok true els
 abbrev pub first_of : List (List ℕ) → List ℕ
 first_of [] = []
 first_of (word ∷ words) = word
+
+-- the two edges that the words behind the first one name
+unfoldable pub edges_said : List (List ℕ) → ℕ → List (List ℕ) → Result (EdgeId × EdgeId) ScriptFault
+edges_said names line words = do
+  from ← said_at (place_in names) line 2 words
+  to ← said_at (place_in names) line 3 words
+  Ok (record { 0 = from }, record { 0 = to })
+
+-- ---- a whole script, where a line is read by its number and its words
+
+-- the lines, the first of which has this number
+abbrev pub lines_said : {A : Type 0} → (ℕ → List (List ℕ) → Result A ScriptFault) → ℕ → List (List (List ℕ)) → Result (List A) ScriptFault
+lines_said line_of number [] = Ok []
+lines_said line_of number (words ∷ rest) = line_of number words >>= (λ line. lines_said line_of (number + 1) rest >>= (λ lines. Ok (line ∷ lines)))
+
+-- the lines that octets are, or the first place that is wrong: what is no word comes before a word that fits no line
+unfoldable pub script_said : {A : Type 0} → (ℕ → List (List ℕ) → Result A ScriptFault) → List ℕ → Result (List A) ScriptFault
+script_said line_of octets = script octets >>= lines_said line_of 1

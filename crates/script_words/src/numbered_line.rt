@@ -1,10 +1,11 @@
 //! Lines of a script by their words.
 ghost use Rattle.std.specs.Prelude.{◌≡◌, ◌<◌, ◌≤◌, ◌+◌, ◌-◌, ◌^◌, length, IfOk};
 ghost use Rattle.command_text.specs.{Names.{place_in}, Words.{decimal_from}};
-ghost use Rattle.script_words.specs.Reading.{ends_behind, first_of, said_at};
+ghost use Rattle.script_words.specs.Reading.{edges_said, ends_behind, first_of, said_at};
 
 use command_text::decimal::decimal;
 use command_text::{NameIndex, PlanNames};
+use net_base::EdgeId;
 use script_text::{Line, ScriptFault};
 
 /// A line of a script with its number, and the names of which its words may speak. Words are counted from 1.
@@ -17,6 +18,20 @@ pub struct NumberedLine<'a, 'n> {
 }
 
 impl<'a, 'n> NumberedLine<'a, 'n> {
+    /// The line at this place of a script, where places count from 0.
+    pub fn at(names: &'a PlanNames<'n>, place: usize, line: &'a Line) -> NumberedLine<'a, 'n>
+        requires { place < 2 ^ 32 - 1 }
+        ensures names { result.names.now ≡ names.now }
+        ensures number { result.number ≡ place + 1 }
+        ensures line { result.line.now ≡ line.now }
+    {
+        NumberedLine {
+            names,
+            number: place as u32 + 1,
+            line,
+        }
+    }
+
     /// The fault that the word of this number is missing, one too many, or not what has to stand there.
     pub fn bad(self, word: u32) -> ScriptFault
         ensures { result ≡ ScriptFault.Bad self.entry.number word }
@@ -50,6 +65,17 @@ impl<'a, 'n> NumberedLine<'a, 'n> {
             },
             None => Err(self.bad(word)),
         }
+    }
+
+    /// The two edges that the second and the third word name. `Bad` comes exactly at the first of them that is missing or no such name.
+    #[tactic(auto, unfolding(crate::specs::Reading::edges_said))]
+    pub fn edges(self) -> Result<(EdgeId, EdgeId), ScriptFault>
+        ensures exact { result ≡ edges_said self.entry.names.now.edges self.entry.number self.entry.line.now }
+        ensures within { IfOk result (λ ends. (ends.0.0 < length self.entry.names.now.edges) × (ends.1.0 < length self.entry.names.now.edges)) }
+    {
+        let from = self.place(&self.names.edges, 2)?;
+        let to = self.place(&self.names.edges, 3)?;
+        Ok((EdgeId(from), EdgeId(to)))
     }
 
     /// The decimal number from `low` to `high` that a word writes, without zeros in front. `Bad` comes exactly where the word is missing or

@@ -1,5 +1,5 @@
 -- The lines of a script of independent mode (RFC 6870 section 4) by their words.
-use Rattle.std.specs.Prelude.{◌+◌, ◌==◌, codes, ℕ, Bool, false, List, [], ◌∷◌, length, slice_get, Option, Some, None, option_and_then, Result, Ok, Err, if◌then◌else◌}
+use Rattle.std.specs.Prelude.{◌==◌, codes, ℕ, Bool, false, List, length, slice_get, Option, Some, None, option_and_then, Result, Ok, Err, if◌then◌else◌}
 use Rattle.std.specs.Str.{bytes_eq}
 use Rattle.net_base.specs.declared.plan.Plan.{Plan}
 use Rattle.net_base.specs.declared.plan.wire_plan.WirePlan.{WirePlan}
@@ -11,16 +11,11 @@ use Rattle.status_exchange.specs.declared.wish.Wish.TheVariants.{Active, Standby
 use Rattle.script_text.specs.declared.script_fault.ScriptFault.{ScriptFault}
 use Rattle.script_text.specs.declared.script_fault.ScriptFault.TheVariants.{Bad}
 use Rattle.script_text.specs.Reading.{◌>>=◌}
-use Rattle.script_text.specs.Script.{script}
-use Rattle.script_words.specs.Reading.{ends_behind, first_of, said_at}
+use Rattle.script_words.specs.Reading.{edges_said, ends_behind, first_of, said_at, script_said}
 use Rattle.switchover_model.specs.declared.switch_line.SwitchLine.{SwitchLine}
 use Rattle.switchover_model.specs.declared.switch_line.SwitchLine.TheVariants as line
 
 -- ---- what a line names
-
--- an edge of the plan
-abbrev pub script_edge_at : Plan → ℕ → ℕ → List (List ℕ) → Result ℕ ScriptFault
-script_edge_at plan number word words = said_at (place_in (edge_names plan.edges)) number word words
 
 -- a wire without switching points
 abbrev pub has_two_edges : Option WirePlan → Bool
@@ -44,27 +39,24 @@ wire_at plan number word words = said_at (short_wire plan) number word words
 -- connect E P
 unfoldable pub connect_line : Plan → ℕ → List (List ℕ) → Result SwitchLine ScriptFault
 connect_line plan number words = do
-  edge ← script_edge_at plan number 2 words
-  peer ← script_edge_at plan number 3 words
+  ends ← edges_said (edge_names plan.edges) number words
   end ← ends_behind number 3 words
-  Ok (line.Connect (record { 0 = edge }) (record { 0 = peer }))
+  Ok (line.Connect ends.0 ends.1)
 
 -- cut E P
 unfoldable pub cut_in : Plan → ℕ → List (List ℕ) → Result SwitchLine ScriptFault
 cut_in plan number words = do
-  edge ← script_edge_at plan number 2 words
-  peer ← script_edge_at plan number 3 words
+  ends ← edges_said (edge_names plan.edges) number words
   end ← ends_behind number 3 words
-  Ok (line.Cut (record { 0 = edge }) (record { 0 = peer }))
+  Ok (line.Cut ends.0 ends.1)
 
 -- deliver E P N
 unfoldable pub deliver_line : Plan → ℕ → List (List ℕ) → Result SwitchLine ScriptFault
 deliver_line plan number words = do
-  from ← script_edge_at plan number 2 words
-  to ← script_edge_at plan number 3 words
+  ends ← edges_said (edge_names plan.edges) number words
   count ← said_at (decimal_from 1 65535) number 4 words
   end ← ends_behind number 4 words
-  Ok (line.Deliver (record { 0 = from }) (record { 0 = to }) count)
+  Ok (line.Deliver ends.0 ends.1 count)
 
 -- settle N
 unfoldable pub settle_in : ℕ → List (List ℕ) → Result SwitchLine ScriptFault
@@ -76,7 +68,7 @@ settle_in number words = do
 -- active E W, standby E W, ask E W
 unfoldable pub set_in : Plan → Wish → ℕ → List (List ℕ) → Result SwitchLine ScriptFault
 set_in plan wish number words = do
-  edge ← script_edge_at plan number 2 words
+  edge ← said_at (place_in (edge_names plan.edges)) number 2 words
   wire ← wire_at plan number 3 words
   end ← ends_behind number 3 words
   Ok (line.Set (record { 0 = edge }) (record { 0 = wire }) wish)
@@ -109,12 +101,6 @@ switchover_line_by plan number word words =
 unfoldable pub switch_line_of : Plan → ℕ → List (List ℕ) → Result SwitchLine ScriptFault
 switch_line_of plan number words = switchover_line_by plan number (first_of words) words
 
--- the lines, the first of which has this number
-abbrev pub switch_lines_of : Plan → ℕ → List (List (List ℕ)) → Result (List SwitchLine) ScriptFault
-switch_lines_of plan number [] = Ok []
-switch_lines_of plan number (words ∷ rest) =
-    switch_line_of plan number words >>= (λ line. switch_lines_of plan (number + 1) rest >>= (λ lines. Ok (line ∷ lines)))
-
--- the lines that octets are, or the first place that is wrong: what is no word comes before a word that fits no line
+-- the lines that octets are, or the first place that is wrong
 unfoldable pub switch_lines_in : Plan → List ℕ → Result (List SwitchLine) ScriptFault
-switch_lines_in plan octets = script octets >>= switch_lines_of plan 1
+switch_lines_in plan octets = script_said (switch_line_of plan) octets

@@ -1,10 +1,10 @@
 //! The lines of a script.
-ghost use Rattle.std.specs.Prelude.{◌≡◌, ◌<◌, ◌≤◌, length, slice_get, IfOk, IfSome};
+ghost use Rattle.std.specs.Prelude.{◌≡◌, ◌<◌, length, slice_get, if◌then◌else◌, IfOk, IfSome};
 ghost use Rattle.command_text.specs.Planned.{names_of};
 ghost use Rattle.net_base.specs.plan.NameFaults.{wire_names};
 ghost use Rattle.script_words.specs.Reading.{said_at};
 ghost use Rattle.switchover_model.specs.Planned.{IsLineOf};
-ghost use Rattle.switchover_script.specs.Lines.{between_two, connect_line, cut_in, deliver_line, script_edge_at, has_two_edges, set_in, settle_in, short_wire, switch_line_of, wire_at, script_wish_of};
+ghost use Rattle.switchover_script.specs.Lines.{between_two, connect_line, cut_in, deliver_line, has_two_edges, set_in, settle_in, short_wire, switch_line_of, wire_at, script_wish_of};
 
 use command_text::{PlanNames, is_same};
 use net_base::{EdgeId, Plan, WireId};
@@ -12,16 +12,6 @@ use script_text::ScriptFault;
 use script_words::NumberedLine;
 use status_exchange::Wish;
 use switchover_model::SwitchLine;
-
-// The edge that a word names.
-fn edge(plan: &Plan, line: NumberedLine<'_, '_>, word: u32) -> Result<u16, ScriptFault>
-    requires names { line.names.now ≡ names_of plan.now }
-    requires word { 1 ≤ word }
-    ensures exact { result ≡ script_edge_at plan.now line.entry.number word line.entry.line.now }
-    ensures within { IfOk result (λ place. place < length plan.now.edges) }
-{
-    line.place(&line.names.edges, word)
-}
 
 // The wire at a place, where it has two edges.
 #[tactic(auto, unfolding(crate::specs::Lines::between_two))]
@@ -68,36 +58,20 @@ fn wire(plan: &Plan, line: NumberedLine<'_, '_>) -> Result<u16, ScriptFault>
     }
 }
 
-// `connect E P`.
-#[tactic(auto, unfolding(crate::specs::Lines::connect_line))]
-fn connect(plan: &Plan, line: NumberedLine<'_, '_>) -> Result<SwitchLine, ScriptFault>
+// `connect E P` or `cut E P`.
+#[tactic(auto, unfolding(crate::specs::Lines::connect_line, crate::specs::Lines::cut_in))]
+fn join(plan: &Plan, line: NumberedLine<'_, '_>, joins: bool) -> Result<SwitchLine, ScriptFault>
     requires names { line.names.now ≡ names_of plan.now }
-    ensures exact { result ≡ connect_line plan.now line.entry.number line.entry.line.now }
+    ensures exact { result ≡ (if joins then connect_line plan.now line.entry.number line.entry.line.now else cut_in plan.now line.entry.number line.entry.line.now) }
     ensures planned { IfOk result (IsLineOf plan.now) }
 {
-    let from = edge(plan, line, 2)?;
-    let to = edge(plan, line, 3)?;
+    let (edge, peer) = line.edges()?;
     line.ends(3)?;
-    Ok(SwitchLine::Connect {
-        edge: EdgeId(from),
-        peer: EdgeId(to),
-    })
-}
-
-// `cut E P`.
-#[tactic(auto, unfolding(crate::specs::Lines::cut_in))]
-fn cut(plan: &Plan, line: NumberedLine<'_, '_>) -> Result<SwitchLine, ScriptFault>
-    requires names { line.names.now ≡ names_of plan.now }
-    ensures exact { result ≡ cut_in plan.now line.entry.number line.entry.line.now }
-    ensures planned { IfOk result (IsLineOf plan.now) }
-{
-    let from = edge(plan, line, 2)?;
-    let to = edge(plan, line, 3)?;
-    line.ends(3)?;
-    Ok(SwitchLine::Cut {
-        edge: EdgeId(from),
-        peer: EdgeId(to),
-    })
+    if joins {
+        Ok(SwitchLine::Connect { edge, peer })
+    } else {
+        Ok(SwitchLine::Cut { edge, peer })
+    }
 }
 
 // `deliver E P N`, with N from 1 to 65535.
@@ -107,15 +81,10 @@ fn deliver(plan: &Plan, line: NumberedLine<'_, '_>) -> Result<SwitchLine, Script
     ensures exact { result ≡ deliver_line plan.now line.entry.number line.entry.line.now }
     ensures planned { IfOk result (IsLineOf plan.now) }
 {
-    let from = edge(plan, line, 2)?;
-    let to = edge(plan, line, 3)?;
+    let (from, to) = line.edges()?;
     let count = line.decimal(1, 65535, 4)? as u16;
     line.ends(4)?;
-    Ok(SwitchLine::Deliver {
-        from: EdgeId(from),
-        to: EdgeId(to),
-        count,
-    })
+    Ok(SwitchLine::Deliver { from, to, count })
 }
 
 // `settle N`, with N from 1 to 10000.
@@ -136,7 +105,7 @@ fn set(plan: &Plan, line: NumberedLine<'_, '_>, wish: Wish) -> Result<SwitchLine
     ensures exact { result ≡ set_in plan.now wish line.entry.number line.entry.line.now }
     ensures planned { IfOk result (IsLineOf plan.now) }
 {
-    let me = edge(plan, line, 2)?;
+    let me = line.place(&line.names.edges, 2)?;
     let of = wire(plan, line)?;
     line.ends(3)?;
     Ok(SwitchLine::Set {
@@ -171,9 +140,9 @@ pub fn read_line(plan: &Plan, line: NumberedLine<'_, '_>) -> Result<SwitchLine, 
 {
     let word = line.first();
     if is_same(word, "connect") {
-        connect(plan, line)
+        join(plan, line, true)
     } else if is_same(word, "cut") {
-        cut(plan, line)
+        join(plan, line, false)
     } else if is_same(word, "deliver") {
         deliver(plan, line)
     } else if is_same(word, "settle") {

@@ -15,7 +15,7 @@ use crate::types::see_types;
 use net_base::{NoMemory, Plan, Shelf, Sink};
 use std::alloc::Global;
 use switchover_net::play;
-use switchover_script::{SwitchLine, read_switch_script};
+use switchover_script::{SwitchLine, read_script};
 use switchover_text::put_switchover;
 use text_lines::Page;
 
@@ -50,7 +50,7 @@ fn exchange<K: Sink>(alloc: Global, plan: &Plan, script: &[u8], sink: &mut K) ->
     requires few { length script.now < 2 ^ 32 - 2 }
     ensures { EndsScript (switch_lines_in plan.now script.now) (λ lines. EndsExchange plan.now lines (lines_written (K.taken sink.old) (K.faults sink.old) []) (lines_written (K.taken sink.new) (K.faults sink.new) []) None result) (lines_written (K.taken sink.old) (K.faults sink.old) []) (lines_written (K.taken sink.new) (K.faults sink.new) []) None result }
 {
-    match read_switch_script(alloc, plan, script) {
+    match read_script(alloc, plan, script) {
         Ok(lines) => write_exchange(alloc, plan, lines.as_slice(), sink),
         Err(fault) => refused(fault),
     }

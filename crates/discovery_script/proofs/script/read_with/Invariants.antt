@@ -4,12 +4,13 @@ use Rattle.std.specs.List.{All}
 use Rattle.net_base.specs.declared.plan.Plan.{Plan}
 use Rattle.command_text.specs.Planned.{names_of}
 use Rattle.script_text.specs.Reading.{with_front_lines}
-use Rattle.discovery_script.specs.Lines.{lines_of}
+use Rattle.script_words.specs.Reading.{lines_said}
+use Rattle.discovery_script.specs.Lines.{discovery_line_of}
 use Rattle.discovery_script.specs.Planned.{IsDiscoveryLineOf}
-use Rattle.discovery_script.proofs.script.lines.Given as goal
+use Rattle.discovery_script.proofs.script.read_with.Given as goal
 
 abbrev pub invariant-loop-place : goal.invariant-loop-place
 invariant-loop-place l = record {
-  read : with_front_lines l.lines (lines_of l.names (l.place + 1) (drop l.place l.texts)) ≡ lines_of l.names 1 l.texts;
-  planned : (plan : Plan) → l.names ≡ names_of plan → All (IsDiscoveryLineOf plan) l.lines;
+  read : with_front_lines l.read (lines_said (discovery_line_of l.names) (l.place + 1) (drop l.place l.line-items)) ≡ lines_said (discovery_line_of l.names) 1 l.line-items;
+  planned : (plan : Plan) → l.names ≡ names_of plan → All (IsDiscoveryLineOf plan) l.read;
 }

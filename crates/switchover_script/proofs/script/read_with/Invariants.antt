@@ -1,0 +1,14 @@
+-- The lines so far were read, and what they name stands in the plan.
+use Rattle.std.proofs.Common.{◌≡◌, ◌+◌, drop}
+use Rattle.std.specs.List.{All}
+use Rattle.script_text.specs.Reading.{with_front_lines}
+use Rattle.switchover_model.specs.Planned.{IsLineOf}
+use Rattle.script_words.specs.Reading.{lines_said}
+use Rattle.switchover_script.specs.Lines.{switch_line_of}
+use Rattle.switchover_script.proofs.script.read_with.Given as goal
+
+abbrev pub invariant-loop-place : goal.invariant-loop-place
+invariant-loop-place l = record {
+  read : with_front_lines l.read (lines_said (switch_line_of l.plan) (l.place + 1) (drop l.place l.line-items)) ≡ lines_said (switch_line_of l.plan) 1 l.line-items;
+  planned : All (IsLineOf l.plan) l.read;
+}
