@@ -40,9 +40,8 @@ impl EdgeRow {
         ensures plan { IfOk result (λ row. row.plan ≡ plan.now) }
         ensures first { IfOk result (λ row. seen_row row ≡ (λ me. first_state)) }
     {
-        let count = plan.edges.len();
         let plan = Rc::new(alloc, plan.copy(alloc)?)?;
-        let edges = open_edges(alloc, &plan, count)?;
+        let edges = open_edges(alloc, &plan)?;
         Ok(EdgeRow { plan, edges })
     }
 
@@ -190,12 +189,12 @@ impl EdgeRow {
 }
 
 // The edges of a plan, which they share.
-fn open_edges(alloc: Global, plan: &Rc<Plan>, count: usize) -> Result<Vec<IndepEdge>, NoMemory>
-    requires checked { IsChecked plan.now.value }
-    requires count { count ≡ length plan.now.value.edges }
-    ensures { IfOk result (λ edges. AreFresh plan.now.value count edges.items) }
+fn open_edges(alloc: Global, plan: &Rc<Plan>) -> Result<Vec<IndepEdge>, NoMemory>
+    requires { IsChecked plan.now.value }
+    ensures { IfOk result (λ edges. AreFresh plan.now.value (length plan.now.value.edges) edges.items) }
 {
     let mut edges = Vec::new(alloc);
+    let count = plan.edges.len();
     for place in 0..count {
         edges.push(IndepEdge::share(alloc, plan.clone()?, EdgeId(place as u16))?)?;
     }
