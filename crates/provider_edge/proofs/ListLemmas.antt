@@ -334,10 +334,10 @@ new_lists plan made me c same keeps here parts peerings wires zeros priorities o
   keeps = keeps;
   here = here;
   peerings = peerings ∙ ap (λ (p : Plan). replicate (length p.edges) None) same;
-  places = parts.places;
-  ends = parts.idle;
-  next = parts.next;
-  kept = parts.kept;
+  places = parts.untold.places;
+  ends = parts.untold.idle;
+  next = parts.untold.next;
+  kept = parts.untold.kept;
   wires = wires ∙ ap (λ (p : Plan). replicate (length p.wires) true) same;
   zeros = zeros ∙ ap (λ (p : Plan). replicate (length p.wires) 0) same;
   priorities = priorities ∙ ap (λ (p : Plan). map (λ (row : WirePlan). row.priority) p.wires) same;

@@ -1,11 +1,20 @@
 -- An edge at work on one input, as contracts see it: over a state of the edge it is the work of the model.
-use Rattle.std.specs.Prelude.{◌≡◌, List}
+use Rattle.std.specs.Prelude.{◌≡◌, Bool, true, false, List, []}
 use Rattle.net_base.specs.declared.outside.link_call.LinkCall.{LinkCall}
-use Rattle.edge_model.specs.Work.{GoesOn, Work}
+use Rattle.pw_messages.specs.LinkAnswers.{Agrees, Answers}
+use Rattle.edge_model.specs.declared.input.Input.{Input}
+use Rattle.edge_model.specs.Put.{Spoken}
+use Rattle.edge_model.specs.Step.{edge_step}
+use Rattle.edge_model.specs.Work.{GoesOn, Work, beginning}
 use Rattle.peer_dialogue.specs.AtWork.{WorkGoes}
 use Rattle.peer_dialogue.specs.Peering.{at_edge}
 use Rattle.peer_dialogue.specs.declared.at_work.AtWork.{AtWork}
 use Rattle.provider_edge.specs.Lists.{EdgeLists, Keeps, seen, worked}
+
+-- the edge begins to work on an input: until it is done it counts as stopped, and nothing was given out yet
+pub record IsBegun {L : Type 0} (edge : EdgeLists) (work : AtWork L) : Type 0 where
+  pub working : edge.stopped ≡ true
+  pub fresh : work.effects.now ≡ record { idle = false; list = [] }
 
 module _ {L : Type 0} (link_calls : L → List LinkCall) where
   -- work of the edge on an input that applies
@@ -28,3 +37,20 @@ module _ {L : Type 0} (link_calls : L → List LinkCall) where
     pub link : done.link.ghost_name ≡ begun.link.ghost_name
     pub effects : done.effects.ghost_name ≡ begun.effects.ghost_name
     pub calls : GoesOn (link_calls begun.link.now) (link_calls done.link.now)
+
+  -- ---- what the edge does, whatever the answers are that its link gave
+
+  -- on an input: its step of the model
+  abbrev pub TakesBy : EdgeLists → AtWork L → EdgeLists → AtWork L → Input → Type 0
+  TakesBy old begun new done input = (told : Answers) → Agrees told (link_calls done.link.now)
+      → worked_at new done ≡ edge_step old.plan told input (beginning (seen old) (link_calls begun.link.now))
+
+  -- on an input that applies: this work
+  abbrev pub WorksBy : EdgeLists → AtWork L → EdgeLists → AtWork L → (Answers → Work → Work) → Type 0
+  WorksBy old begun new done step = (told : Answers) → Agrees told (link_calls done.link.now)
+      → at_work new done ≡ step told (at_work old begun)
+
+  -- as it tells its neighbours: this work, and whether the link did not take a message
+  abbrev pub SaysBy : EdgeLists → AtWork L → EdgeLists → AtWork L → (Answers → Work → Spoken) → Bool → Type 0
+  SaysBy old begun new done step failed = (told : Answers) → Agrees told (link_calls done.link.now)
+      → record { work = at_work new done; failed = failed } ≡ step told (at_work old begun)

@@ -10,12 +10,16 @@ use Rattle.edge_model.specs.State.{empty_edge, first_label}
 use Rattle.provider_edge.specs.Lists.{EdgeLists, seen}
 use Rattle.provider_edge.specs.Spokes.{IsNewSpokes, SpokeLists}
 
--- ends, spokes and bridges of an edge of the plan that have taken no input
-pub record AreNewParts (plan : Plan) (me : EdgeId) (ends : EndLists) (spokes : SpokeLists) (forwarding : ForwardingLists) : Type 0 where
+-- ends of an edge of the plan that have taken no input
+pub record AreNewEnds (plan : Plan) (me : EdgeId) (ends : EndLists) : Type 0 where
   pub places : ends.places ≡ end_places plan me
   pub idle : seen_ends ends ≡ (λ wire peer. fresh)
   pub next : ends.labels.next ≡ first_label plan me
   pub kept : ends.labels.kept ≡ []
+
+-- ends, spokes and bridges of it
+pub record AreNewParts (plan : Plan) (me : EdgeId) (ends : EndLists) (spokes : SpokeLists) (forwarding : ForwardingLists) : Type 0 where
+  pub untold : AreNewEnds plan me ends
   pub unchosen : IsNewSpokes plan me spokes
   pub unheard : IsNewForwarding plan me forwarding
 

@@ -1,5 +1,5 @@
 -- How an edge takes an input.
-use Rattle.std.specs.Prelude.{◌≤◌, List, Option, Some, None}
+use Rattle.std.specs.Prelude.{◌≡◌, ◌≤◌, ◌<◌, ℕ, true, length, List, Option, Some, None}
 use Rattle.net_base.specs.declared.plan.Plan.{Plan}
 use Rattle.hvpls_spokes.specs.declared.port.Port.{Port}
 use Rattle.edge_model.specs.declared.effect.Effect.{Effect}
@@ -7,7 +7,10 @@ use Rattle.edge_model.specs.declared.input.Input.{Input}
 use Rattle.edge_model.specs.declared.input.Input.TheVariants.{Connected, Octets, Lost, Restart, Tick, Frame, Packet, Wire, Circuit, Status, Priority, Ping}
 use Rattle.edge_model.specs.Local.{AllStayBehind, AllStayBeside}
 use Rattle.edge_model.specs.State.{EdgeState}
+use Rattle.edge_model.specs.Synced.{InSync}
 use Rattle.edge_model.specs.Work.{Work}
+use Rattle.pw_ends.specs.Ends.{place_of}
+use Rattle.provider_edge.specs.Lists.{EdgeLists, seen}
 
 -- the bits of a status are five
 abbrev pub IsInRange : Input → Type 0
@@ -33,3 +36,10 @@ StaysLocal plan edge (Ping wire) effects = Unit {0}
 abbrev pub copied_by : (Port → Work → Work) → Option Port → Work → Work
 copied_by copy None work = work
 copied_by copy (Some port) work = copy port work
+
+-- a packet is taken at a terminal end by an edge at work, to which the states of its wires were told
+pub record IsTerminalAt (edge : EdgeLists) (slot : ℕ) : Type 0 where
+  pub working : edge.stopped ≡ true
+  pub synced : InSync edge.plan (seen edge)
+  pub within : slot < length edge.ends.places
+  pub terminal : (place_of edge.ends slot).terminal ≡ true

@@ -10,7 +10,7 @@ ghost use Rattle.edge_model.specs.{State.{addresses_of, empty_edge, end_at, has_
 ghost use Rattle.edge_model.specs.Work.{GoesOn, beginning};
 ghost use Rattle.edge_forwarding.specs.Domain.{age_of};
 ghost use Rattle.provider_edge.specs.{Bounds.{IsBounded}, EndOf.{is_of_segment}, Said.{AllFit, TellsTaken}, Taking.{IsInRange, StaysLocal}};
-ghost use Rattle.provider_edge.specs.{AtWork.{Takes, worked_at}, Lists.{seen, worked}};
+ghost use Rattle.provider_edge.specs.{AtWork.{IsBegun, Takes, TakesBy}, Lists.{seen, worked}};
 ghost use Rattle.peer_dialogue.specs.Peering.{held_octets, session_name};
 
 mod administration;
@@ -176,12 +176,10 @@ impl Edge {
     // last of the wires, so the edge counts as stopped.
     fn work<L: Link>(&mut self, input: Input<'_>, work: &mut AtWork<'_, L>) -> Result<(), NoMemory>
         requires range { IsInRange input }
-        requires working { self.old.stopped ≡ true }
+        requires begun { IsBegun self.old work.old }
         requires synced { InSync self.old.plan (seen self.old) }
-        requires fresh { work.old.effects.now ≡ record { idle = false; list = [] } }
         ensures goes { Takes L.calls self.old work.old self.new work.new }
-        ensures step { OnOk result ((told : Answers) → Agrees told (L.calls work.new.link.now)
-            → worked_at L.calls self.new work.new ≡ edge_step self.old.plan told input.entry (beginning (seen self.old) (L.calls work.old.link.now))) }
+        ensures step { OnOk result (TakesBy L.calls self.old work.old self.new work.new input.entry) }
     {
         match input {
             Input::Connected { peer } => self.connected(peer, work),

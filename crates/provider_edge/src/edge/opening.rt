@@ -1,11 +1,8 @@
 //! An edge is opened.
-ghost use Rattle.std.specs.Prelude.{◌≡◌, ◌<◌, [], None, true, false, length, map, replicate, IfOk};
+ghost use Rattle.std.specs.Prelude.{◌≡◌, ◌<◌, None, true, false, length, map, replicate, IfOk};
 ghost use Rattle.net_base.specs.plan.Accepted.{IsChecked};
-ghost use Rattle.pw_signalling.specs.End.{fresh};
-ghost use Rattle.pw_ends.specs.Ends.{seen_ends};
 ghost use Rattle.edge_forwarding.specs.Forwarding.{IsNewForwarding};
-ghost use Rattle.edge_model.specs.{EndPlaces.{end_places}, State.{first_label}};
-ghost use Rattle.provider_edge.specs.{Opening.{IsNewEdge}, Spokes.{IsNewSpokes}};
+ghost use Rattle.provider_edge.specs.{Opening.{AreNewEnds, IsNewEdge}, Spokes.{IsNewSpokes}};
 
 use crate::Edge;
 use crate::pings::first_pings;
@@ -28,10 +25,7 @@ impl Edge {
     ) -> Result<Edge, NoMemory>
         requires checked { IsChecked plan.value }
         requires me { me.0 < length plan.value.edges }
-        requires places { ends.places ≡ end_places plan.value me }
-        requires idle { seen_ends ends ≡ (λ wire peer. fresh) }
-        requires next { ends.labels.next ≡ first_label plan.value me }
-        requires kept { ends.labels.kept ≡ [] }
+        requires untold { AreNewEnds plan.value me ends }
         ensures { IfOk result (λ edge. IsNewEdge plan.value me edge) }
     {
         match Spokes::open(alloc, &plan, me, ends.places()) {
@@ -48,13 +42,10 @@ impl Edge {
         ends: PwEnds,
         spokes: Spokes,
     ) -> Result<Edge, NoMemory>
+        requires spokes { IsNewSpokes plan.value me spokes }
         requires checked { IsChecked plan.value }
         requires me { me.0 < length plan.value.edges }
-        requires places { ends.places ≡ end_places plan.value me }
-        requires idle { seen_ends ends ≡ (λ wire peer. fresh) }
-        requires next { ends.labels.next ≡ first_label plan.value me }
-        requires kept { ends.labels.kept ≡ [] }
-        requires spokes { IsNewSpokes plan.value me spokes }
+        requires untold { AreNewEnds plan.value me ends }
         ensures { IfOk result (λ edge. IsNewEdge plan.value me edge) }
     {
         match forwarding_over(alloc, &plan, me) {

@@ -1,10 +1,9 @@
 //! A circuit is turned on or off.
-ghost use Rattle.std.specs.Prelude.{◌≡◌, [], Some, true, false, OnOk};
+ghost use Rattle.std.specs.Prelude.{◌≡◌, Some, true, OnOk};
 ghost use Rattle.net_base.specs.{declared.plan.circuit_plan.CircuitPlan.{CircuitPlan}, plan.Places.{circuit_row}};
-ghost use Rattle.pw_messages.specs.LinkAnswers.{Agrees, Answers};
-ghost use Rattle.edge_model.specs.{Circuit.{circuit_input, turned}, Work.{beginning}};
+ghost use Rattle.edge_model.specs.{Circuit.{turned}, declared.input.Input.TheVariants.{Circuit}};
 ghost use Rattle.edge_forwarding.specs.Forwarding.{own_service};
-ghost use Rattle.provider_edge.specs.{AtWork.{Takes, worked_at}, Lists.{Keeps, seen}};
+ghost use Rattle.provider_edge.specs.{AtWork.{IsBegun, Takes, TakesBy}, Lists.{Keeps, seen}};
 
 use crate::Edge;
 use net_base::{CircuitId, Link, NoMemory, ServiceId};
@@ -18,11 +17,9 @@ impl Edge {
         on: bool,
         work: &mut AtWork<'_, L>,
     ) -> Result<(), NoMemory>
-        requires working { self.old.stopped ≡ true }
-        requires fresh { work.old.effects.now ≡ record { idle = false; list = [] } }
+        requires { IsBegun self.old work.old }
         ensures goes { Takes L.calls self.old work.old self.new work.new }
-        ensures step { OnOk result ((told : Answers) → Agrees told (L.calls work.new.link.now)
-            → worked_at L.calls self.new work.new ≡ circuit_input self.old.plan told circuit on (circuit_row self.old.plan circuit) (beginning (seen self.old) (L.calls work.old.link.now))) }
+        ensures step { OnOk result (TakesBy L.calls self.old work.old self.new work.new (Circuit circuit on)) }
     {
         let Some(service) = self.own_service(circuit) else {
             work.effects.idle = true;

@@ -1,10 +1,9 @@
 //! A tick passes.
-ghost use Rattle.std.specs.Prelude.{◌≡◌, ◌<◌, [], true, false, length, OnOk};
+ghost use Rattle.std.specs.Prelude.{◌≡◌, ◌<◌, true, false, length, OnOk};
 ghost use Rattle.session_core.specs.Table.{Ticked};
-ghost use Rattle.pw_messages.specs.LinkAnswers.{Agrees, Answers};
-ghost use Rattle.edge_model.specs.{Labels.{resting}, Session.{happens_with_ends, losing_ends}, State.{has_end}};
-ghost use Rattle.edge_model.specs.{Tick.{tick_input, ticks_sessions}, Work.{beginning}};
-ghost use Rattle.provider_edge.specs.{AtWork.{Takes, Works, at_work, worked_at}, Lists.{Keeps, seen}};
+ghost use Rattle.edge_model.specs.{Labels.{resting}, Session.{happens_with_ends, losing_ends}, State.{has_end}, Tick.{ticks_sessions}};
+ghost use Rattle.edge_model.specs.declared.input.Input.TheVariants.{Tick};
+ghost use Rattle.provider_edge.specs.{AtWork.{IsBegun, Takes, TakesBy, Works, WorksBy}, Lists.{Keeps, seen}};
 
 use crate::Edge;
 use net_base::{EdgeId, Link, NoMemory};
@@ -13,11 +12,9 @@ use peer_dialogue::{AtWork, PeerEvent};
 impl Edge {
     // The edge's labels rest, it counts the tick, its sessions have it, its addresses age, and then it mends its ends.
     pub(crate) fn tick<L: Link>(&mut self, work: &mut AtWork<'_, L>) -> Result<(), NoMemory>
-        requires working { self.old.stopped ≡ true }
-        requires fresh { work.old.effects.now ≡ record { idle = false; list = [] } }
+        requires { IsBegun self.old work.old }
         ensures goes { Takes L.calls self.old work.old self.new work.new }
-        ensures step { OnOk result ((told : Answers) → Agrees told (L.calls work.new.link.now)
-            → worked_at L.calls self.new work.new ≡ tick_input self.old.plan told (beginning (seen self.old) (L.calls work.old.link.now))) }
+        ensures step { OnOk result (TakesBy L.calls self.old work.old self.new work.new Tick) }
     {
         self.rest_labels();
         self.count_tick();
@@ -44,8 +41,7 @@ impl Edge {
     fn tick_sessions<L: Link>(&mut self, work: &mut AtWork<'_, L>) -> Result<(), NoMemory>
         requires working { self.old.stopped ≡ true }
         ensures goes { Works L.calls self.old work.old self.new work.new }
-        ensures step { OnOk result ((told : Answers) → Agrees told (L.calls work.new.link.now)
-            → at_work L.calls self.new work.new ≡ ticks_sessions told 0 (length self.old.plan.edges) (at_work L.calls self.old work.old)) }
+        ensures step { OnOk result (WorksBy L.calls self.old work.old self.new work.new (λ told. ticks_sessions told 0 (length self.old.plan.edges))) }
     {
         if self.is_idle() {
             return Ok(());
@@ -65,8 +61,7 @@ impl Edge {
     ) -> Result<(), NoMemory>
         requires working { self.old.stopped ≡ true }
         ensures goes { Works L.calls self.old work.old self.new work.new }
-        ensures step { OnOk result ((told : Answers) → Agrees told (L.calls work.new.link.now)
-            → at_work L.calls self.new work.new ≡ happens_with_ends told peer Ticked (at_work L.calls self.old work.old)) }
+        ensures step { OnOk result (WorksBy L.calls self.old work.old self.new work.new (λ told. happens_with_ends told peer Ticked)) }
     {
         if self.is_apart(peer) {
             return Ok(());

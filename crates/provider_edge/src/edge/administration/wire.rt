@@ -1,9 +1,8 @@
 //! A wire is put on or off, and the failure bits of the edge's end of it and the priority of a spoke are set.
-ghost use Rattle.pw_messages.specs.LinkAnswers.{Agrees, Answers};
-ghost use Rattle.edge_model.specs.{EndPlaces.{ends_here, passes}, State.{with_bits}};
-ghost use Rattle.edge_model.specs.{Wire.{priority_input, status_input, turned_wire, wire_input}, Work.{beginning}};
-ghost use Rattle.std.specs.Prelude.{◌≡◌, ◌<◌, ◌≤◌, [], true, false, length, OnOk};
-ghost use Rattle.provider_edge.specs.{AtWork.{Takes, worked_at}, Lists.{Keeps, seen}};
+ghost use Rattle.edge_model.specs.{EndPlaces.{ends_here, passes}, State.{with_bits}, Wire.{turned_wire}};
+ghost use Rattle.edge_model.specs.declared.input.Input.TheVariants.{Priority, Status, Wire};
+ghost use Rattle.std.specs.Prelude.{◌≡◌, ◌<◌, ◌≤◌, true, length, OnOk};
+ghost use Rattle.provider_edge.specs.{AtWork.{IsBegun, Takes, TakesBy}, Lists.{Keeps, seen}};
 
 use crate::Edge;
 use net_base::{Link, NoMemory, WireId};
@@ -17,11 +16,9 @@ impl Edge {
         on: bool,
         work: &mut AtWork<'_, L>,
     ) -> Result<(), NoMemory>
-        requires working { self.old.stopped ≡ true }
-        requires fresh { work.old.effects.now ≡ record { idle = false; list = [] } }
+        requires { IsBegun self.old work.old }
         ensures goes { Takes L.calls self.old work.old self.new work.new }
-        ensures step { OnOk result ((told : Answers) → Agrees told (L.calls work.new.link.now)
-            → worked_at L.calls self.new work.new ≡ wire_input self.old.plan told wire on (beginning (seen self.old) (L.calls work.old.link.now))) }
+        ensures step { OnOk result (TakesBy L.calls self.old work.old self.new work.new (Wire wire on)) }
     {
         if !self.passes(wire) || self.is_wire_on(wire) == on {
             work.effects.idle = true;
@@ -38,12 +35,10 @@ impl Edge {
         bits: u8,
         work: &mut AtWork<'_, L>,
     ) -> Result<(), NoMemory>
-        requires working { self.old.stopped ≡ true }
-        requires fresh { work.old.effects.now ≡ record { idle = false; list = [] } }
+        requires begun { IsBegun self.old work.old }
         requires small { bits ≤ 31 }
         ensures goes { Takes L.calls self.old work.old self.new work.new }
-        ensures step { OnOk result ((told : Answers) → Agrees told (L.calls work.new.link.now)
-            → worked_at L.calls self.new work.new ≡ status_input self.old.plan told wire bits (beginning (seen self.old) (L.calls work.old.link.now))) }
+        ensures step { OnOk result (TakesBy L.calls self.old work.old self.new work.new (Status wire bits)) }
     {
         if !self.ends_here(wire) || self.bits_of(wire) == bits {
             work.effects.idle = true;
@@ -60,11 +55,9 @@ impl Edge {
         priority: u8,
         work: &mut AtWork<'_, L>,
     ) -> Result<(), NoMemory>
-        requires working { self.old.stopped ≡ true }
-        requires fresh { work.old.effects.now ≡ record { idle = false; list = [] } }
+        requires { IsBegun self.old work.old }
         ensures goes { Takes L.calls self.old work.old self.new work.new }
-        ensures step { OnOk result ((told : Answers) → Agrees told (L.calls work.new.link.now)
-            → worked_at L.calls self.new work.new ≡ priority_input self.old.plan told wire priority (beginning (seen self.old) (L.calls work.old.link.now))) }
+        ensures step { OnOk result (TakesBy L.calls self.old work.old self.new work.new (Priority wire priority)) }
     {
         if !self.is_own_spoke(wire) || self.priority_of(wire) == priority {
             work.effects.idle = true;

@@ -1,10 +1,9 @@
 //! A customer's frame comes by a circuit.
-ghost use Rattle.std.specs.Prelude.{◌≡◌, ◌==◌, [], Result, Ok, Some, true, false, OnOk};
+ghost use Rattle.std.specs.Prelude.{◌≡◌, ◌==◌, Result, Ok, Some, OnOk};
 ghost use Rattle.net_base.specs.plan.Places.{circuit_row};
-ghost use Rattle.pw_messages.specs.LinkAnswers.{Agrees, Answers};
-ghost use Rattle.edge_model.specs.{Frame.{frame_input}, State.{is_on}, Synced.{InSync}, Work.{beginning}};
+ghost use Rattle.edge_model.specs.{State.{is_on}, Synced.{InSync}, declared.input.Input.TheVariants.{Frame}};
 ghost use Rattle.edge_forwarding.specs.Forwarding.{own_service};
-ghost use Rattle.provider_edge.specs.{AtWork.{Takes, worked_at}, Lists.{seen}};
+ghost use Rattle.provider_edge.specs.{AtWork.{IsBegun, Takes, TakesBy}, Lists.{seen}};
 
 use crate::Edge;
 use crate::ingress::Ingress;
@@ -20,12 +19,10 @@ impl Edge {
         octets: &[u8],
         work: &mut AtWork<'_, L>,
     ) -> Result<(), NoMemory>
-        requires working { self.old.stopped ≡ true }
-        requires fresh { work.old.effects.now ≡ record { idle = false; list = [] } }
+        requires begun { IsBegun self.old work.old }
         requires synced { InSync self.old.plan (seen self.old) }
         ensures goes { Takes L.calls self.old work.old self.new work.new }
-        ensures step { OnOk result ((told : Answers) → Agrees told (L.calls work.new.link.now)
-            → worked_at L.calls self.new work.new ≡ frame_input self.old.plan told circuit octets.now (circuit_row self.old.plan circuit) (beginning (seen self.old) (L.calls work.old.link.now))) }
+        ensures step { OnOk result (TakesBy L.calls self.old work.old self.new work.new (Frame circuit octets)) }
     {
         let Some(service) = self.own_service(circuit) else {
             work.effects.idle = true;

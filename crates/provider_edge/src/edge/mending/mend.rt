@@ -1,12 +1,11 @@
 //! An edge mends its ends (RFC 8077 sections 6 and 6.3): all steps, in the order of its ends.
 ghost use Rattle.std.specs.Prelude.{◌≡◌, ◌<◌, ◌+◌, List, None, length, false, IfOk, OnOk, true};
 ghost use Rattle.net_base.specs.declared.outside.link_call.LinkCall.{LinkCall};
-ghost use Rattle.pw_messages.specs.LinkAnswers.{Agrees, Answers};
 ghost use Rattle.edge_model.specs.EndPlaces.{end_places};
-ghost use Rattle.edge_model.specs.Mend.{each_end, forgets_downs, mends, mends_choice, mends_end, mends_once, mends_status, tells_downs};
+ghost use Rattle.edge_model.specs.Mend.{forgets_downs, mends, mends_choice, mends_end, mends_once, mends_status, tells_downs};
 ghost use Rattle.edge_forwarding.specs.Views.{view};
 ghost use Rattle.peer_dialogue.specs.Peering.{at_edge};
-ghost use Rattle.provider_edge.specs.{AtWork.{Works, at_work}, Lists.{Keeps, seen}};
+ghost use Rattle.provider_edge.specs.{AtWork.{SaysBy, Works, WorksBy}, Lists.{Keeps, seen}, Mending.{each_from}};
 
 use crate::Edge;
 use crate::end_marks::EndMarks;
@@ -20,8 +19,7 @@ impl Edge {
     pub(crate) fn mend<L: Link>(&mut self, work: &mut AtWork<'_, L>) -> Result<(), NoMemory>
         requires working { self.old.stopped ≡ true }
         ensures goes { Works L.calls self.old work.old self.new work.new }
-        ensures step { OnOk result ((told : Answers) → Agrees told (L.calls work.new.link.now)
-            → at_work L.calls self.new work.new ≡ mends self.old.plan told (at_work L.calls self.old work.old)) }
+        ensures step { OnOk result (WorksBy L.calls self.old work.old self.new work.new (λ told. mends self.old.plan told)) }
     {
         if self.is_tidy() {
             return Ok(());
@@ -41,8 +39,7 @@ impl Edge {
     fn mend_once<L: Link>(&mut self, work: &mut AtWork<'_, L>) -> Result<bool, NoMemory>
         requires working { self.old.stopped ≡ true }
         ensures goes { Works L.calls self.old work.old self.new work.new }
-        ensures step { IfOk result (λ failed. (told : Answers) → Agrees told (L.calls work.new.link.now)
-            → record { work = at_work L.calls self.new work.new; failed = failed } ≡ mends_once self.old.plan told (at_work L.calls self.old work.old)) }
+        ensures step { IfOk result (SaysBy L.calls self.old work.old self.new work.new (λ told. mends_once self.old.plan told)) }
     {
         let before = self.all_chosen(work.alloc)?;
         let refused = self.mend_ends(work)?;
@@ -57,9 +54,7 @@ impl Edge {
     fn mend_ends<L: Link>(&mut self, work: &mut AtWork<'_, L>) -> Result<bool, NoMemory>
         requires working { self.old.stopped ≡ true }
         ensures goes { Works L.calls self.old work.old self.new work.new }
-        ensures step { IfOk result (λ failed. (told : Answers) → Agrees told (L.calls work.new.link.now)
-            → record { work = at_work L.calls self.new work.new; failed = failed }
-            ≡ each_end (mends_end self.old.plan told) (end_places self.old.plan self.old.me) (record { work = at_work L.calls self.old work.old; failed = false })) }
+        ensures step { IfOk result (SaysBy L.calls self.old work.old self.new work.new (λ told. each_from false (end_places self.old.plan self.old.me) (mends_end self.old.plan told))) }
     {
         let mut failed = false;
         for slot in self.first_marked()..self.count_ends() {
@@ -79,9 +74,7 @@ impl Edge {
     ) -> Result<bool, NoMemory>
         requires working { self.old.stopped ≡ true }
         ensures goes { Works L.calls self.old work.old self.new work.new }
-        ensures step { IfOk result (λ failed. (told : Answers) → Agrees told (L.calls work.new.link.now)
-            → record { work = at_work L.calls self.new work.new; failed = failed }
-            ≡ each_end (mends_status self.old.plan told) (end_places self.old.plan self.old.me) (record { work = at_work L.calls self.old work.old; failed = before })) }
+        ensures step { IfOk result (SaysBy L.calls self.old work.old self.new work.new (λ told. each_from before (end_places self.old.plan self.old.me) (mends_status self.old.plan told))) }
     {
         let mut failed = before;
         for slot in self.first_marked()..self.count_ends() {
@@ -102,9 +95,7 @@ impl Edge {
     ) -> Result<bool, NoMemory>
         requires working { self.old.stopped ≡ true }
         ensures goes { Works L.calls self.old work.old self.new work.new }
-        ensures step { IfOk result (λ failed. (told : Answers) → Agrees told (L.calls work.new.link.now)
-            → record { work = at_work L.calls self.new work.new; failed = failed }
-            ≡ each_end (mends_choice self.old.plan told (view None chosen.now)) (end_places self.old.plan self.old.me) (record { work = at_work L.calls self.old work.old; failed = before })) }
+        ensures step { IfOk result (SaysBy L.calls self.old work.old self.new work.new (λ told. each_from before (end_places self.old.plan self.old.me) (mends_choice self.old.plan told (view None chosen.now)))) }
     {
         if self.has_chosen(chosen) {
             return Ok(before);

@@ -1,13 +1,12 @@
 //! One end is mended: what it tells follows what it should tell by now (RFC 8077 sections 6 and 6.3).
 ghost use Rattle.std.specs.Prelude.{◌≡◌, ◌<◌, ◌≤◌, List, length, None, true, IfOk, OnOk};
 ghost use Rattle.net_base.specs.{declared.outside.link_call.LinkCall.{LinkCall}, plan.Places.{wire_row}};
-ghost use Rattle.pw_messages.specs.LinkAnswers.{Agrees, Answers};
 ghost use Rattle.edge_model.specs.declared.end_place.EndPlace.{EndPlace};
 ghost use Rattle.edge_model.specs.Mend.{advertises_wish, forgetting_wire, is_new_choice, mends_choice, mends_end, mends_status, offer_stands, tells_down, wish};
 ghost use Rattle.edge_model.specs.{Role.{down_at, is_chosen_wire, role_at}, State.{with_told_down}};
 ghost use Rattle.pw_signalling.specs.AnyEnd.{end_of};
 ghost use Rattle.pw_ends.specs.Ends.{HasKind, Holds, IsIdle, end_in, place_of};
-ghost use Rattle.provider_edge.specs.{Mending.{forgotten_down, mended_down}, AtWork.{Works, at_work}, Lists.{Keeps, seen}};
+ghost use Rattle.provider_edge.specs.{Mending.{forgotten_down, mended_down}, AtWork.{SaysBy, Works}, Lists.{Keeps, seen}};
 ghost use Rattle.edge_forwarding.specs.Views.{view};
 ghost use Rattle.peer_dialogue.specs.Peering.{at_edge};
 
@@ -31,8 +30,7 @@ impl Edge {
         requires working { self.old.stopped ≡ true }
         requires slot { slot < length self.old.ends.places }
         ensures goes { Works L.calls self.old work.old self.new work.new }
-        ensures step { IfOk result (λ failed. (told : Answers) → Agrees told (L.calls work.new.link.now)
-            → record { work = at_work L.calls self.new work.new; failed = failed } ≡ mends_end self.old.plan told (place_of self.old.ends slot) (at_work L.calls self.old work.old)) }
+        ensures step { IfOk result (SaysBy L.calls self.old work.old self.new work.new (λ told. mends_end self.old.plan told (place_of self.old.ends slot))) }
     {
         match self.end_in(slot) {
             PwEnd::Idle(end) => {
@@ -70,9 +68,7 @@ impl Edge {
         requires slot { slot < length self.old.ends.places }
         requires idle { IsIdle (end_in self.old.ends slot).local }
         ensures goes { Works L.calls self.old work.old self.new work.new }
-        ensures step { IfOk result (λ failed. (told : Answers) → Agrees told (L.calls work.new.link.now)
-            → record { work = at_work L.calls self.new work.new; failed = failed }
-            ≡ advertises_wish told (place_of self.old.ends slot) (wish self.old.plan (seen self.old) (place_of self.old.ends slot)) (at_work L.calls self.old work.old)) }
+        ensures step { IfOk result (SaysBy L.calls self.old work.old self.new work.new (λ told. advertises_wish told (place_of self.old.ends slot) (wish self.old.plan (seen self.old) (place_of self.old.ends slot)))) }
     {
         let place = self.place_at(slot);
         if !self.may_tell(&place) {
@@ -116,8 +112,7 @@ impl Edge {
         requires working { self.old.stopped ≡ true }
         requires slot { slot < length self.old.ends.places }
         ensures goes { Works L.calls self.old work.old self.new work.new }
-        ensures step { IfOk result (λ failed. (told : Answers) → Agrees told (L.calls work.new.link.now)
-            → record { work = at_work L.calls self.new work.new; failed = failed } ≡ mends_status self.old.plan told (place_of self.old.ends slot) (at_work L.calls self.old work.old)) }
+        ensures step { IfOk result (SaysBy L.calls self.old work.old self.new work.new (λ told. mends_status self.old.plan told (place_of self.old.ends slot))) }
     {
         match self.end_in(slot) {
             PwEnd::Advertised(end) => {
@@ -154,9 +149,7 @@ impl Edge {
         requires working { self.old.stopped ≡ true }
         requires slot { slot < length self.old.ends.places }
         ensures goes { Works L.calls self.old work.old self.new work.new }
-        ensures step { IfOk result (λ failed. (told : Answers) → Agrees told (L.calls work.new.link.now)
-            → record { work = at_work L.calls self.new work.new; failed = failed }
-            ≡ mends_choice self.old.plan told (view None chosen.now) (place_of self.old.ends slot) (at_work L.calls self.old work.old)) }
+        ensures step { IfOk result (SaysBy L.calls self.old work.old self.new work.new (λ told. mends_choice self.old.plan told (view None chosen.now) (place_of self.old.ends slot))) }
     {
         if !self.is_new_choice(chosen, slot) {
             return Ok(false);

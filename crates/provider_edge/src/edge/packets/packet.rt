@@ -13,7 +13,7 @@ ghost use Rattle.pw_ends.specs.Ends.{end_in, place_of};
 ghost use Rattle.edge_forwarding.specs.Forwarding.{open_ports};
 ghost use Rattle.peer_dialogue.specs.AtWork.{WorkGoes};
 ghost use Rattle.pw_signalling.specs.declared.binding.Binding.{Binding as Bound};
-ghost use Rattle.provider_edge.specs.{AtWork.{Works, at_work}, Lists.{seen}};
+ghost use Rattle.provider_edge.specs.{AtWork.{Works, WorksBy, at_work}, Lists.{seen}, Taking.{IsTerminalAt}};
 
 use crate::Edge;
 use crate::edge::packets::verify::is_picked;
@@ -45,8 +45,7 @@ impl Edge {
         requires working { self.old.stopped ≡ true }
         requires synced { InSync self.old.plan (seen self.old) }
         ensures goes { Works L.calls self.old work.old self.new work.new }
-        ensures step { OnOk result ((told : Answers) → Agrees told (L.calls work.new.link.now)
-            → at_work L.calls self.new work.new ≡ packet_input self.old.plan told octets.now (at_work L.calls self.old work.old)) }
+        ensures step { OnOk result (WorksBy L.calls self.old work.old self.new work.new (λ told. packet_input self.old.plan told octets.now)) }
     {
         let entry = match read_entry(octets) {
             Ok(entry) => entry,
@@ -61,8 +60,7 @@ impl Edge {
     // 1. Behind a router alert a second entry is read. There a terminal end takes connectivity verification.
     fn alerted<L: Link>(&self, octets: &[u8], work: &mut AtWork<'_, L>) -> Result<(), NoMemory>
         ensures goes { WorkGoes L.calls work.old work.new }
-        ensures step { OnOk result ((told : Answers) → Agrees told (L.calls work.new.link.now)
-            → at_work L.calls self.now work.new ≡ alerted self.now.plan told octets.now (entry_of octets.now) (at_work L.calls self.now work.old)) }
+        ensures step { OnOk result (WorksBy L.calls self.now work.old self.now work.new (λ told. alerted self.now.plan told octets.now (entry_of octets.now))) }
     {
         let entry = match read_entry(octets) {
             Ok(entry) => entry,
@@ -102,8 +100,7 @@ impl Edge {
         requires long { 4 ≤ length octets.now }
         requires living { 1 ≤ entry.now.ttl }
         ensures goes { Works L.calls self.old work.old self.new work.new }
-        ensures step { OnOk result ((told : Answers) → Agrees told (L.calls work.new.link.now)
-            → at_work L.calls self.new work.new ≡ labelled self.old.plan told octets.now entry.now (at_work L.calls self.old work.old)) }
+        ensures step { OnOk result (WorksBy L.calls self.old work.old self.new work.new (λ told. labelled self.old.plan told octets.now entry.now)) }
     {
         if entry.label < LEAST_LABEL {
             return drop_for(DropCause::NoLabel, &mut work.effects.list);
@@ -130,14 +127,9 @@ impl Edge {
         payload: &[u8],
         work: &mut AtWork<'_, L>,
     ) -> Result<(), NoMemory>
-        requires working { self.old.stopped ≡ true }
-        requires synced { InSync self.old.plan (seen self.old) }
-        requires slot { slot < length self.old.ends.places }
-        requires terminal { (place_of self.old.ends slot).terminal ≡ true }
+        requires { IsTerminalAt self.old slot }
         ensures goes { Works L.calls self.old work.old self.new work.new }
-        ensures step { OnOk result ((told : Answers) → Agrees told (L.calls work.new.link.now)
-            → at_work L.calls self.new work.new
-            ≡ terminated self.old.plan told (place_of self.old.ends slot) ttl (wire_row self.old.plan (place_of self.old.ends slot).wire) (end_in self.old.ends slot).remote payload.now (at_work L.calls self.old work.old)) }
+        ensures step { OnOk result (WorksBy L.calls self.old work.old self.new work.new (λ told. terminated self.old.plan told (place_of self.old.ends slot) ttl (wire_row self.old.plan (place_of self.old.ends slot).wire) (end_in self.old.ends slot).remote payload.now)) }
     {
         if self.end_in(slot).remote().is_none() {
             return drop_for(DropCause::Down, &mut work.effects.list);
@@ -155,25 +147,22 @@ impl Edge {
     fn with_word<L: Link>(
         &mut self,
         slot: usize,
-        payload: &[u8],
+        behind_label: &[u8],
         work: &mut AtWork<'_, L>,
     ) -> Result<(), NoMemory>
-        requires working { self.old.stopped ≡ true }
-        requires synced { InSync self.old.plan (seen self.old) }
-        requires slot { slot < length self.old.ends.places }
-        requires terminal { (place_of self.old.ends slot).terminal ≡ true }
+        requires { IsTerminalAt self.old slot }
         ensures goes { Works L.calls self.old work.old self.new work.new }
         ensures step { OnOk result ((told : Answers) (row : WirePlan) (binding : Bound) → Agrees told (L.calls work.new.link.now) → wire_row self.old.plan (place_of self.old.ends slot).wire ≡ Some row
             → (end_in self.old.ends slot).remote ≡ Some binding
-            → at_work L.calls self.new work.new ≡ by_control_word self.old.plan told row (place_of self.old.ends slot) binding payload.now (at_work L.calls self.old work.old)) }
+            → at_work L.calls self.new work.new ≡ by_control_word self.old.plan told row (place_of self.old.ends slot) binding behind_label.now (at_work L.calls self.old work.old)) }
     {
-        if payload.is_empty() {
+        if behind_label.is_empty() {
             return drop_for(DropCause::Short, &mut work.effects.list);
         }
-        if is_channel(payload) {
-            return self.verify_in(slot, Cc::Header, payload, work);
+        if is_channel(behind_label) {
+            return self.verify_in(slot, Cc::Header, behind_label, work);
         }
-        self.enter(slot, payload, work)
+        self.enter(slot, behind_label, work)
     }
 
     // What the edge offers at the end of a slot.
@@ -194,10 +183,7 @@ impl Edge {
         payload: &[u8],
         work: &mut AtWork<'_, L>,
     ) -> Result<(), NoMemory>
-        requires working { self.old.stopped ≡ true }
-        requires synced { InSync self.old.plan (seen self.old) }
-        requires slot { slot < length self.old.ends.places }
-        requires terminal { (place_of self.old.ends slot).terminal ≡ true }
+        requires { IsTerminalAt self.old slot }
         ensures goes { Works L.calls self.old work.old self.new work.new }
         ensures step { OnOk result ((told : Answers) (row : WirePlan) → Agrees told (L.calls work.new.link.now) → wire_row self.old.plan (place_of self.old.ends slot).wire ≡ Some row
             → at_work L.calls self.new work.new ≡ enters self.old.plan told row (place_of self.old.ends slot) payload.now (at_work L.calls self.old work.old)) }

@@ -1,11 +1,10 @@
 //! An edge pings the far end of a wire (RFC 5085 sections 3 and 5).
-ghost use Rattle.std.specs.Prelude.{◌≡◌, ◌<◌, [], Some, true, false, length, IfOk, OnOk};
+ghost use Rattle.std.specs.Prelude.{◌≡◌, ◌<◌, Some, true, length, IfOk, OnOk};
 ghost use Rattle.net_base.specs.{declared.plan.wire_plan.WirePlan.{WirePlan}, plan.Places.{wire_row}};
-ghost use Rattle.pw_messages.specs.LinkAnswers.{Agrees, Answers};
 ghost use Rattle.pw_ends.specs.Ends.{place_of};
-ghost use Rattle.edge_model.specs.{Echo.{ping_number}, Ping.{far_address, far_terminal, following_ping, ping_input, pinging}};
-ghost use Rattle.edge_model.specs.Work.{beginning};
-ghost use Rattle.provider_edge.specs.{AtWork.{Takes, worked_at}, Lists.{Keeps, seen}, Pings.{ping_of, request_of}};
+ghost use Rattle.edge_model.specs.{Echo.{ping_number}, Ping.{far_address, far_terminal, following_ping, pinging}};
+ghost use Rattle.edge_model.specs.declared.input.Input.TheVariants.{Ping};
+ghost use Rattle.provider_edge.specs.{AtWork.{IsBegun, Takes, TakesBy}, Lists.{Keeps, seen}, Pings.{ping_of, request_of}};
 
 use crate::Edge;
 use crate::echo::request_under;
@@ -23,11 +22,9 @@ impl Edge {
         wire: WireId,
         work: &mut AtWork<'_, L>,
     ) -> Result<(), NoMemory>
-        requires working { self.old.stopped ≡ true }
-        requires fresh { work.old.effects.now ≡ record { idle = false; list = [] } }
+        requires { IsBegun self.old work.old }
         ensures goes { Takes L.calls self.old work.old self.new work.new }
-        ensures step { OnOk result ((told : Answers) → Agrees told (L.calls work.new.link.now)
-            → worked_at L.calls self.new work.new ≡ ping_input self.old.plan told wire (beginning (seen self.old) (L.calls work.old.link.now))) }
+        ensures step { OnOk result (TakesBy L.calls self.old work.old self.new work.new (Ping wire)) }
     {
         let Some(slot) = self.ends.terminal(wire) else {
             work.effects.idle = true;

@@ -1,11 +1,10 @@
 //! A switching point passes a packet on to its other neighbour on the wire (RFC 6073 section 4).
 ghost use Rattle.std.specs.Prelude.{◌≡◌, ◌≤◌, ◌<◌, ◌-◌, length, IfOk, OnOk};
-ghost use Rattle.pw_messages.specs.LinkAnswers.{Agrees, Answers};
 ghost use Rattle.pw_stitch.specs.{Relabelling.{relabelled}, Swap.{label_onward}};
 ghost use Rattle.edge_model.specs.Packet.{switched};
 ghost use Rattle.pw_ends.specs.Ends.{end_in, place_of};
 ghost use Rattle.peer_dialogue.specs.AtWork.{WorkGoes};
-ghost use Rattle.provider_edge.specs.AtWork.{at_work};
+ghost use Rattle.provider_edge.specs.AtWork.{WorksBy};
 
 use crate::Edge;
 use crate::quiet::drop_for;
@@ -32,8 +31,7 @@ impl Edge {
         requires long { 4 ≤ length octets.now }
         requires living { 1 ≤ entry.now.ttl }
         ensures goes { WorkGoes L.calls work.old work.new }
-        ensures step { OnOk result ((told : Answers) → Agrees told (L.calls work.new.link.now)
-            → at_work L.calls self.now work.new ≡ switched self.now.plan told octets.now entry.now (place_of self.now.ends slot) (at_work L.calls self.now work.old)) }
+        ensures step { OnOk result (WorksBy L.calls self.now work.old self.now work.new (λ told. switched self.now.plan told octets.now entry.now (place_of self.now.ends slot))) }
     {
         let Some(mate) = self.mate_at(slot) else {
             return Ok(());

@@ -2,10 +2,10 @@
 ghost use Rattle.std.specs.{Prelude.{◌≡◌, ◌<◌, [], true, false, List, length, map, slice_get, OnOk}, List.{list_any}};
 ghost use Rattle.net_base.specs.{plan.Paths.{are_joined}, declared.outside.link_call.LinkCall.{LinkCall}};
 ghost use Rattle.session_core.specs.State.{IsProper};
-ghost use Rattle.pw_messages.specs.LinkAnswers.{Agrees, Answers};
-ghost use Rattle.edge_model.specs.{Connection.{connected_input, connects, lost_input, restart_input}, Labels.{meeting}, Work.{beginning}};
+ghost use Rattle.edge_model.specs.{Connection.{connects, restart_input}, Labels.{meeting}, Work.{beginning}};
+ghost use Rattle.edge_model.specs.declared.input.Input.TheVariants.{Connected, Lost};
 ghost use Rattle.peer_dialogue.specs.Peering.{connection_with, gone, peers_between};
-ghost use Rattle.provider_edge.specs.{AtWork.{Takes, Works, at_work, worked_at}, EndOf.{is_end_beside}, Lists.{Keeps, seen, worked}};
+ghost use Rattle.provider_edge.specs.{AtWork.{IsBegun, Takes, TakesBy, Works, WorksBy}, EndOf.{is_end_beside}, Lists.{Keeps, seen, worked}};
 
 use crate::Edge;
 use crate::pings::forget_pings;
@@ -21,11 +21,9 @@ impl Edge {
         peer: EdgeId,
         work: &mut AtWork<'_, L>,
     ) -> Result<(), NoMemory>
-        requires working { self.old.stopped ≡ true }
-        requires fresh { work.old.effects.now ≡ record { idle = false; list = [] } }
+        requires { IsBegun self.old work.old }
         ensures goes { Takes L.calls self.old work.old self.new work.new }
-        ensures step { OnOk result ((told : Answers) → Agrees told (L.calls work.new.link.now)
-            → worked_at L.calls self.new work.new ≡ connected_input self.old.plan told peer (beginning (seen self.old) (L.calls work.old.link.now))) }
+        ensures step { OnOk result (TakesBy L.calls self.old work.old self.new work.new (Connected peer)) }
     {
         // Named so that what always holds of the fields is at hand for the proof.
         let _ = &self.plan;
@@ -60,8 +58,7 @@ impl Edge {
         requires within { peer.0 < length self.old.plan.edges }
         requires proper { IsProper peers }
         ensures goes { Works L.calls self.old work.old self.new work.new }
-        ensures step { OnOk result ((told : Answers) → Agrees told (L.calls work.new.link.now)
-            → at_work L.calls self.new work.new ≡ connects told peer (connection_with peers) (at_work L.calls self.old work.old)) }
+        ensures step { OnOk result (WorksBy L.calls self.old work.old self.new work.new (λ told. connects told peer (connection_with peers))) }
     {
         self.meet(peer);
         let absent = !self.has_end(peer);
@@ -104,11 +101,9 @@ impl Edge {
         peer: EdgeId,
         work: &mut AtWork<'_, L>,
     ) -> Result<(), NoMemory>
-        requires working { self.old.stopped ≡ true }
-        requires fresh { work.old.effects.now ≡ record { idle = false; list = [] } }
+        requires { IsBegun self.old work.old }
         ensures goes { Takes L.calls self.old work.old self.new work.new }
-        ensures step { OnOk result ((told : Answers) → Agrees told (L.calls work.new.link.now)
-            → worked_at L.calls self.new work.new ≡ lost_input self.old.plan told peer (beginning (seen self.old) (L.calls work.old.link.now))) }
+        ensures step { OnOk result (TakesBy L.calls self.old work.old self.new work.new (Lost peer)) }
     {
         let marks = self.marks;
         let Some(peering) = self.take_peering(peer) else {

@@ -1,13 +1,14 @@
 //! Octets of LDP are heard (RFC 5036 section 3.5.3): one PDU after another, and each message of a PDU in turn.
 ghost use Rattle.pw_messages.specs.LinkAnswers.{Agrees, Answers};
 ghost use Rattle.edge_model.specs.declared.effect.Effect.{Effect};
-ghost use Rattle.edge_model.specs.Hear.{acts_on, advice_of, advises, hears, hears_message, hears_pdu, octets_input, holds};
-ghost use Rattle.edge_model.specs.{State.{has_end}, Work.{beginning}};
+ghost use Rattle.edge_model.specs.{Hear.{acts_on, advice_of, advises, hears, hears_message, hears_pdu, holds}, State.{has_end}};
+ghost use Rattle.edge_model.specs.declared.input.Input.TheVariants.{Octets};
 ghost use Rattle.net_base.specs.declared.outside.link_call.LinkCall.{LinkCall};
-ghost use Rattle.std.specs.{Prelude.{◌≡◌, ◌<◌, ◌+◌, ◌++◌, List, ℕ, true, Some, OnOk, false, []}, List.{AllByRecursion}};
+ghost use Rattle.std.specs.{Prelude.{◌≡◌, ◌<◌, ◌+◌, ◌++◌, List, ℕ, true, Some, OnOk}, List.{AllByRecursion}};
 ghost use Rattle.net_values.specs.Octets.{AreOctets};
 ghost use Rattle.peer_dialogue.specs.{Heard.{CanBeHeard}, Hearing.{HearsOn, IsWaitingFor, alive}, Peering.{at_edge}};
-ghost use Rattle.provider_edge.specs.{AtWork.{Takes, Works, at_work, worked_at}, Hearing.{AreTakenOut}, Lists.{Keeps, seen}};
+ghost use Rattle.provider_edge.specs.{AtWork.{IsBegun, Takes, TakesBy, Works, WorksBy, at_work}, Hearing.{AreTakenOut}};
+ghost use Rattle.provider_edge.specs.Lists.{Keeps, seen};
 
 use crate::Edge;
 use ldp_grammar::{LdpId, Message, Pdu};
@@ -23,11 +24,9 @@ impl Edge {
         octets: &[u8],
         work: &mut AtWork<'_, L>,
     ) -> Result<(), NoMemory>
-        requires working { self.old.stopped ≡ true }
-        requires fresh { work.old.effects.now ≡ record { idle = false; list = [] } }
+        requires { IsBegun self.old work.old }
         ensures goes { Takes L.calls self.old work.old self.new work.new }
-        ensures step { OnOk result ((told : Answers) → Agrees told (L.calls work.new.link.now)
-            → worked_at L.calls self.new work.new ≡ octets_input self.old.plan told peer octets.now ((seen self.old).peering peer.0) (beginning (seen self.old) (L.calls work.old.link.now))) }
+        ensures step { OnOk result (TakesBy L.calls self.old work.old self.new work.new (Octets peer octets)) }
     {
         let Some(held) = self.take_held(peer) else {
             work.effects.idle = true;
@@ -79,8 +78,7 @@ impl Edge {
     ) -> Result<(), NoMemory>
         requires working { self.old.stopped ≡ true }
         ensures goes { Works L.calls self.old work.old self.new work.new }
-        ensures step { OnOk result ((told : Answers) → Agrees told (L.calls work.new.link.now)
-            → at_work L.calls self.new work.new ≡ hears self.old.plan told peer (held ++ octets.now) (at_work L.calls self.old work.old)) }
+        ensures step { OnOk result (WorksBy L.calls self.old work.old self.new work.new (λ told. hears self.old.plan told peer (held ++ octets.now))) }
     {
         let mut at = 0;
         'hearing: loop {
@@ -134,8 +132,7 @@ impl Edge {
     ) -> Result<(), NoMemory>
         requires working { self.old.stopped ≡ true }
         ensures goes { Works L.calls self.old work.old self.new work.new }
-        ensures step { OnOk result ((told : Answers) → Agrees told (L.calls work.new.link.now)
-            → at_work L.calls self.new work.new ≡ hears_pdu self.old.plan told peer (alive sender id) (at_work L.calls self.old work.old)) }
+        ensures step { OnOk result (WorksBy L.calls self.old work.old self.new work.new (λ told. hears_pdu self.old.plan told peer (alive sender id))) }
     {
         self.happens(peer, PeerEvent::Heard(sender), work)?;
         self.hear_message(peer, &Message::KeepAlive { id }, work)
@@ -151,8 +148,7 @@ impl Edge {
         requires working { self.old.stopped ≡ true }
         requires heard { AllByRecursion CanBeHeard pdu.now.messages }
         ensures goes { Works L.calls self.old work.old self.new work.new }
-        ensures step { OnOk result ((told : Answers) → Agrees told (L.calls work.new.link.now)
-            → at_work L.calls self.new work.new ≡ hears_pdu self.old.plan told peer pdu.now (at_work L.calls self.old work.old)) }
+        ensures step { OnOk result (WorksBy L.calls self.old work.old self.new work.new (λ told. hears_pdu self.old.plan told peer pdu.now)) }
     {
         self.happens(peer, PeerEvent::Heard(pdu.id), work)?;
         let messages = pdu.messages.as_slice();
@@ -173,8 +169,7 @@ impl Edge {
         requires working { self.old.stopped ≡ true }
         requires heard { CanBeHeard message.now }
         ensures goes { Works L.calls self.old work.old self.new work.new }
-        ensures step { OnOk result ((told : Answers) → Agrees told (L.calls work.new.link.now)
-            → at_work L.calls self.new work.new ≡ hears_message self.old.plan told peer message.now (at_work L.calls self.old work.old)) }
+        ensures step { OnOk result (WorksBy L.calls self.old work.old self.new work.new (λ told. hears_message self.old.plan told peer message.now)) }
     {
         if !self.has_end(peer) {
             return Ok(());
@@ -194,12 +189,11 @@ impl Edge {
         message: &Message,
         work: &mut AtWork<'_, L>,
     ) -> Result<(), NoMemory>
+        requires stands { has_end (seen self.old) peer ≡ true }
         requires working { self.old.stopped ≡ true }
         requires heard { CanBeHeard message.now }
-        requires stands { has_end (seen self.old) peer ≡ true }
         ensures goes { Works L.calls self.old work.old self.new work.new }
-        ensures step { OnOk result ((told : Answers) → Agrees told (L.calls work.new.link.now)
-            → at_work L.calls self.new work.new ≡ acts_on self.old.plan told peer message.now (at_work L.calls self.old work.old)) }
+        ensures step { OnOk result (WorksBy L.calls self.old work.old self.new work.new (λ told. acts_on self.old.plan told peer message.now)) }
     {
         match message {
             Message::LabelMapping {
@@ -246,16 +240,15 @@ impl Edge {
     fn tell_advice<L: Link>(
         &mut self,
         peer: EdgeId,
-        message: &Message,
+        unprocessed: &Message,
         work: &mut AtWork<'_, L>,
     ) -> Result<(), NoMemory>
         requires working { self.old.stopped ≡ true }
         requires stands { has_end (seen self.old) peer ≡ true }
         ensures goes { Works L.calls self.old work.old self.new work.new }
-        ensures step { OnOk result ((told : Answers) → Agrees told (L.calls work.new.link.now)
-            → at_work L.calls self.new work.new ≡ advises told peer (advice_of message.now) (at_work L.calls self.old work.old)) }
+        ensures step { OnOk result (WorksBy L.calls self.old work.old self.new work.new (λ told. advises told peer (advice_of unprocessed.now))) }
     {
-        let Some(reply) = advice_of(message) else {
+        let Some(reply) = advice_of(unprocessed) else {
             return Ok(());
         };
         let Some(peering) = self.take_peering(peer) else {

@@ -4,11 +4,10 @@ ghost use Rattle.std.specs.List.{list_all};
 ghost use Rattle.net_base.specs.declared.outside.link_call.LinkCall.{LinkCall};
 ghost use Rattle.ldp_codec.specs.declared.decode_fault.DecodeFault.{DecodeFault};
 ghost use Rattle.session_core.specs.Table.{Refused};
-ghost use Rattle.pw_messages.specs.LinkAnswers.{Agrees, Answers};
 ghost use Rattle.edge_model.specs.{declared.effect.Effect.{Effect}, Hear.{was_up}, Session.{clears_ends, happens, happens_with_ends, says}};
 ghost use Rattle.edge_model.specs.State.{has_end, is_there, with_peering};
 ghost use Rattle.peer_dialogue.specs.{Event.{MayHappen, event_of}, Peering.{at_edge, held_octets}, PwMessage.{CanBeSaid, numbered}};
-ghost use Rattle.provider_edge.specs.{AtWork.{Works, at_work}, Bounds.{HoldsFew}, Lists.{Keeps, seen}, Tidy.{stands_as}};
+ghost use Rattle.provider_edge.specs.{AtWork.{SaysBy, Works, WorksBy}, Bounds.{HoldsFew}, Lists.{Keeps, seen}, Tidy.{stands_as}};
 
 use crate::Edge;
 use net_base::{EdgeId, Link, NoMemory};
@@ -98,8 +97,7 @@ impl Edge {
         requires may { MayHappen event }
         ensures goes { Works L.calls self.old work.old self.new work.new }
         ensures ended { OnOk result ((wrong : DecodeFault) → event_of event.entry ≡ Refused wrong → (seen self.new).peering peer.0 ≡ None) }
-        ensures step { OnOk result ((told : Answers) → Agrees told (L.calls work.new.link.now)
-            → at_work L.calls self.new work.new ≡ happens_with_ends told peer (event_of event.entry) (at_work L.calls self.old work.old)) }
+        ensures step { OnOk result (WorksBy L.calls self.old work.old self.new work.new (λ told. happens_with_ends told peer (event_of event.entry))) }
     {
         // Nothing is moved where no session stands, which is so for most neighbours at a tick.
         if !self.has_end(peer) {
@@ -133,8 +131,7 @@ impl Edge {
         requires working { self.old.stopped ≡ true }
         requires said { CanBeSaid message.now }
         ensures goes { Works L.calls self.old work.old self.new work.new }
-        ensures step { IfOk result (λ failed. (told : Answers) → Agrees told (L.calls work.new.link.now)
-            → record { work = at_work L.calls self.new work.new; failed = failed } ≡ says told peer (numbered message.now) (at_work L.calls self.old work.old)) }
+        ensures step { IfOk result (SaysBy L.calls self.old work.old self.new work.new (λ told. says told peer (numbered message.now))) }
     {
         let marks = self.marks;
         let was_up = self.is_up(peer);

@@ -1,11 +1,10 @@
 //! A MAC withdraw is heard: the bridge of the wire's service forgets, and the edge passes it on (RFC 4762 section 6.2).
 ghost use Rattle.std.specs.Prelude.{◌≡◌, ◌<◌, Some, None, true, length, position, slice_get, OnOk};
-ghost use Rattle.pw_messages.specs.LinkAnswers.{Agrees, Answers};
 ghost use Rattle.hvpls_spokes.specs.{Port.{is_wire_port, ports_of}, Role.{role_of}};
 ghost use Rattle.mac_withdraw.specs.Passing.{is_wire_at};
 ghost use Rattle.pw_ends.specs.Ends.{place_of};
 ghost use Rattle.edge_model.specs.{Clear.{clears_by, hears_mac_withdraw, passes_on, tells_at, tells_by, withdrawing_at}, Ends.{wire_end}};
-ghost use Rattle.provider_edge.specs.{Taking.{copied_by}, AtWork.{Works, at_work}, Lists.{Keeps, seen}};
+ghost use Rattle.provider_edge.specs.{Taking.{copied_by}, AtWork.{Works, WorksBy}, Lists.{Keeps, seen}};
 
 use crate::Edge;
 use hvpls_spokes::{Port, PortName, role};
@@ -26,8 +25,7 @@ impl Edge {
     ) -> Result<(), NoMemory>
         requires working { self.old.stopped ≡ true }
         ensures goes { Works L.calls self.old work.old self.new work.new }
-        ensures step { OnOk result ((told : Answers) → Agrees told (L.calls work.new.link.now)
-            → at_work L.calls self.new work.new ≡ hears_mac_withdraw self.old.plan told peer fec.now macs.now (at_work L.calls self.old work.old)) }
+        ensures step { OnOk result (WorksBy L.calls self.old work.old self.new work.new (λ told. hears_mac_withdraw self.old.plan told peer fec.now macs.now)) }
     {
         let Some(fec) = fec else {
             return Ok(());
@@ -52,8 +50,7 @@ impl Edge {
         requires working { self.old.stopped ≡ true }
         requires slot { slot < length self.old.ends.places }
         ensures goes { Works L.calls self.old work.old self.new work.new }
-        ensures step { OnOk result ((told : Answers) → Agrees told (L.calls work.new.link.now)
-            → at_work L.calls self.new work.new ≡ clears_by self.old.plan told addresses.now (Some (place_of self.old.ends slot)) (at_work L.calls self.old work.old)) }
+        ensures step { OnOk result (WorksBy L.calls self.old work.old self.new work.new (λ told. clears_by self.old.plan told addresses.now (Some (place_of self.old.ends slot)))) }
     {
         let place = self.place_at(slot);
         if !place.terminal {
@@ -101,9 +98,7 @@ impl Edge {
         requires service { service.0 < length self.old.plan.services }
         requires wire { is_wire_at (ports_of self.old.plan service self.old.me) from ≡ true }
         ensures goes { Works L.calls self.old work.old self.new work.new }
-        ensures step { OnOk result ((told : Answers) → Agrees told (L.calls work.new.link.now)
-            → at_work L.calls self.new work.new
-            ≡ passes_on self.old.plan told addresses.now service from (role_of self.old.plan service self.old.me) (at_work L.calls self.old work.old)) }
+        ensures step { OnOk result (WorksBy L.calls self.old work.old self.new work.new (λ told. passes_on self.old.plan told addresses.now service from (role_of self.old.plan service self.old.me))) }
     {
         let Some(role) = role(&self.plan, service, self.me) else {
             return Ok(());
@@ -142,9 +137,7 @@ impl Edge {
         requires working { self.old.stopped ≡ true }
         requires service { service.0 < length self.old.plan.services }
         ensures goes { Works L.calls self.old work.old self.new work.new }
-        ensures step { OnOk result ((told : Answers) → Agrees told (L.calls work.new.link.now)
-            → at_work L.calls self.new work.new
-            ≡ copied_by (tells_at self.old.plan told addresses.now) (slice_get (ports_of self.old.plan service self.old.me) port) (at_work L.calls self.old work.old)) }
+        ensures step { OnOk result (WorksBy L.calls self.old work.old self.new work.new (λ told. copied_by (tells_at self.old.plan told addresses.now) (slice_get (ports_of self.old.plan service self.old.me) port))) }
     {
         match self.port(service, port) {
             Some(Port::Mesh(wire)) => self.tell_wire(wire, addresses, work),
@@ -162,8 +155,7 @@ impl Edge {
     ) -> Result<(), NoMemory>
         requires working { self.old.stopped ≡ true }
         ensures goes { Works L.calls self.old work.old self.new work.new }
-        ensures step { OnOk result ((told : Answers) → Agrees told (L.calls work.new.link.now)
-            → at_work L.calls self.new work.new ≡ tells_by told addresses.now (wire_end self.old.plan self.old.me wire) (at_work L.calls self.old work.old)) }
+        ensures step { OnOk result (WorksBy L.calls self.old work.old self.new work.new (λ told. tells_by told addresses.now (wire_end self.old.plan self.old.me wire))) }
     {
         match self.ends.terminal(wire) {
             Some(slot) => self.tell_pieces(slot, addresses, work),

@@ -2,11 +2,10 @@
 //! 6.3.2), one call a message.
 ghost use Rattle.std.specs.Prelude.{◌≡◌, ◌≤◌, ◌<◌, Some, None, List, length, OnOk, option_copied, true, false};
 ghost use Rattle.net_base.specs.declared.outside.link_call.LinkCall.{LinkCall};
-ghost use Rattle.pw_messages.specs.LinkAnswers.{Agrees, Answers};
 ghost use Rattle.edge_model.specs.declared.effect.Effect.{Effect};
 ghost use Rattle.edge_model.specs.Signal.{end_of_fec, hears_status, hears_withdraw, maps_to, releases_label, with_released};
 ghost use Rattle.peer_dialogue.specs.{Heard.{CanBeTold}, Peering.{at_edge}};
-ghost use Rattle.provider_edge.specs.{AtWork.{Works, at_work}, Lists.{Keeps, seen}};
+ghost use Rattle.provider_edge.specs.{AtWork.{Works, WorksBy}, Lists.{Keeps, seen}};
 
 use crate::Edge;
 use ldp_grammar::StatusCode;
@@ -30,8 +29,7 @@ impl Edge {
         requires kind { fec.now.kind ≤ 0x7FFF }
         requires told { CanBeTold binding.now.told }
         ensures goes { Works L.calls self.old work.old self.new work.new }
-        ensures step { OnOk result ((told : Answers) → Agrees told (L.calls work.new.link.now)
-            → at_work L.calls self.new work.new ≡ maps_to self.old.plan told peer fec.now binding.now (end_of_fec self.old.plan (seen self.old) peer fec.now) (at_work L.calls self.old work.old)) }
+        ensures step { OnOk result (WorksBy L.calls self.old work.old self.new work.new (λ told. maps_to self.old.plan told peer fec.now binding.now (end_of_fec self.old.plan (seen self.old) peer fec.now))) }
     {
         let Some(slot) = self.slot_of(peer, fec) else {
             return self.release(peer, fec, Some(binding.label), work);
@@ -55,8 +53,7 @@ impl Edge {
         requires working { self.old.stopped ≡ true }
         requires kind { fec.now.kind ≤ 0x7FFF }
         ensures goes { Works L.calls self.old work.old self.new work.new }
-        ensures step { OnOk result ((told : Answers) → Agrees told (L.calls work.new.link.now)
-            → at_work L.calls self.new work.new ≡ releases_label told peer fec.now label (at_work L.calls self.old work.old)) }
+        ensures step { OnOk result (WorksBy L.calls self.old work.old self.new work.new (λ told. releases_label told peer fec.now label)) }
     {
         let message = PwMessage::Release { fec: *fec, label };
         self.say(peer, &message, work)?;
@@ -75,8 +72,7 @@ impl Edge {
         requires working { self.old.stopped ≡ true }
         requires kind { fec.now.kind ≤ 0x7FFF }
         ensures goes { Works L.calls self.old work.old self.new work.new }
-        ensures step { OnOk result ((told : Answers) → Agrees told (L.calls work.new.link.now)
-            → at_work L.calls self.new work.new ≡ hears_withdraw self.old.plan told peer fec.now label.now (at_work L.calls self.old work.old)) }
+        ensures step { OnOk result (WorksBy L.calls self.old work.old self.new work.new (λ told. hears_withdraw self.old.plan told peer fec.now label.now)) }
     {
         self.change_named(
             peer,

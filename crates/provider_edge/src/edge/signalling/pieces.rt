@@ -1,10 +1,9 @@
 //! An edge tells a neighbour that addresses are to be forgotten: a MAC withdraw on an end, in pieces (RFC 4762 section 6.2).
 ghost use Rattle.std.specs.Prelude.{◌≡◌, ◌<◌, ◌≤◌, ◌*◌, length, take, drop, IfOk, OnOk, true};
-ghost use Rattle.pw_messages.specs.LinkAnswers.{Agrees, Answers};
 ghost use Rattle.mac_withdraw.specs.Pieces.{pieces_of};
 ghost use Rattle.pw_ends.specs.Ends.{place_of};
 ghost use Rattle.edge_model.specs.Withdraw.{tells_piece, tells_pieces};
-ghost use Rattle.provider_edge.specs.AtWork.{Works, at_work};
+ghost use Rattle.provider_edge.specs.AtWork.{SaysBy, Works, WorksBy};
 
 use crate::Edge;
 use mac_withdraw::pieces;
@@ -27,9 +26,7 @@ impl Edge {
         requires slot { slot < length self.old.ends.places }
         requires few { length addresses.now ≤ 30 }
         ensures goes { Works L.calls self.old work.old self.new work.new }
-        ensures step { IfOk result (λ failed. (told : Answers) → Agrees told (L.calls work.new.link.now)
-            → record { work = at_work L.calls self.new work.new; failed = failed }
-            ≡ tells_piece told (place_of self.old.ends slot) addresses.now (at_work L.calls self.old work.old)) }
+        ensures step { IfOk result (SaysBy L.calls self.old work.old self.new work.new (λ told. tells_piece told (place_of self.old.ends slot) addresses.now)) }
     {
         match self.end_in(slot) {
             PwEnd::Advertised(end) => {
@@ -57,9 +54,7 @@ impl Edge {
         requires working { self.old.stopped ≡ true }
         requires slot { slot < length self.old.ends.places }
         ensures goes { Works L.calls self.old work.old self.new work.new }
-        ensures step { OnOk result ((told : Answers) → Agrees told (L.calls work.new.link.now)
-            → at_work L.calls self.new work.new
-            ≡ tells_pieces told (place_of self.old.ends slot) (pieces_of addresses.now) (at_work L.calls self.old work.old)) }
+        ensures step { OnOk result (WorksBy L.calls self.old work.old self.new work.new (λ told. tells_pieces told (place_of self.old.ends slot) (pieces_of addresses.now))) }
     {
         for index in 0..pieces(addresses.len()) {
             let piece = piece_at(addresses, index);

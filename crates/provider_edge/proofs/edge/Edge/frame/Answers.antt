@@ -25,7 +25,7 @@ pub returns-in_default-clause-step : goal.returns-in_default-clause-step
 returns-in_default-clause-step g c = λ told agrees.
     subst (λ (e : Effects). worked c.args.self.now (g.L.Link.calls c.args.work.now.link.now) (record e { idle = true })
     ≡ frame_input c.args.self.now.plan told c.args.circuit c.args.octets.now (circuit_row c.args.self.now.plan c.args.circuit)
-    (beginning (seen c.args.self.now) (g.L.Link.calls c.args.work.now.link.now))) (sym c.requires.fresh)
+    (beginning (seen c.args.self.now) (g.L.Link.calls c.args.work.now.link.now))) (sym c.requires.begun.fresh)
     (frame_other c.args.self.now told c.args.circuit c.args.octets.now (circuit_row c.args.self.now.plan c.args.circuit) (g.L.Link.calls c.args.work.now.link.now)
     (sym c.own_service.ensures ∙ c.in_default.is))
 
@@ -36,7 +36,7 @@ pub returns-then-not-is_on-clause-step : goal.returns-then-not-is_on-clause-step
 returns-then-not-is_on-clause-step g c = λ told agrees.
     subst (λ (e : Effects). worked c.args.self.now (g.L.Link.calls c.args.work.now.link.now) (record e { idle = true })
     ≡ frame_input c.args.self.now.plan told c.args.circuit c.args.octets.now (circuit_row c.args.self.now.plan c.args.circuit)
-    (beginning (seen c.args.self.now) (g.L.Link.calls c.args.work.now.link.now))) (sym c.requires.fresh)
+    (beginning (seen c.args.self.now) (g.L.Link.calls c.args.work.now.link.now))) (sym c.requires.begun.fresh)
     (frame_off c.args.self.now told c.args.circuit c.args.octets.now (circuit_row c.args.self.now.plan c.args.circuit) c.in-Some.service (g.L.Link.calls c.args.work.now.link.now)
     (sym c.own_service.ensures ∙ c.in-Some.is) (sym c.is_on.ensures ∙ c.if-not-is_on.true))
 
@@ -61,7 +61,7 @@ returns-clause-step g c = map_on _ _ c.bridge_frame.result
     frame_on c.args.self.now told c.args.circuit c.args.octets.now (circuit_row c.args.self.now.plan c.args.circuit) c.in-Some.service (g.L.Link.calls c.args.work.now.link.now) _
     (sym c.own_service.ensures ∙ c.in-Some.is) (sym c.is_on.ensures ∙ c.if-not-is_on.false)
     (given_out c.bridge_frame.new.self (g.L.Link.calls c.bridge_frame.new.work.link.now) c.bridge_frame.new.work.effects.now
-    (c.bridge_frame.ensures.goes.on.idle ∙ ap (λ (e : Effects). e.idle) c.requires.fresh)
+    (c.bridge_frame.ensures.goes.on.idle ∙ ap (λ (e : Effects). e.idle) c.requires.begun.fresh)
     ∙ (step told (inner_at c.args.self.now.plan c.args.circuit c.args.octets.now) agrees
     (subst (λ (p : Plan). MatchResult c.read_inner-read.result (λ parts. inner_at p c.args.circuit c.args.octets.now ≡ Ok (parts.0.now ++ parts.1.now))
     (λ fault. inner_at p c.args.circuit c.args.octets.now ≡ Err (cause_of fault))) plan c.read_inner-read.ensures.read)
@@ -69,6 +69,6 @@ returns-clause-step g c = map_on _ _ c.bridge_frame.result
     (at_work g.L.Link.calls c.args.self.now c.args.work.now)) c.port_of-port.ensures.port
     ∙ ap (received c.args.self.now.plan told (arrival.Circuit c.args.circuit) c.in-Some.service
     (position (is_circuit_port c.args.circuit) (ports_of c.args.self.now.plan c.in-Some.service c.args.self.now.me)) (inner_at c.args.self.now.plan c.args.circuit c.args.octets.now))
-    (ap (λ (e : Effects). at_edge (seen c.args.self.now) (g.L.Link.calls c.args.work.now.link.now) e.list) c.requires.fresh
+    (ap (λ (e : Effects). at_edge (seen c.args.self.now) (g.L.Link.calls c.args.work.now.link.now) e.list) c.requires.begun.fresh
     ∙ begun (seen c.args.self.now) (g.L.Link.calls c.args.work.now.link.now))))))
     c.bridge_frame.ensures.step

@@ -18,7 +18,7 @@ use Rattle.provider_edge.proofs.edge.Edge.status.Goals as goal
 pub returns-then-not-ends_here-clause-step : goal.returns-then-not-ends_here-clause-step
 returns-then-not-ends_here-clause-step g c = λ told agrees.
     subst (λ (e : Effects). worked c.args.self.now (g.L.Link.calls c.args.work.now.link.now) (record e { idle = true })
-    ≡ status_input c.args.self.now.plan told c.args.wire c.args.bits (beginning (seen c.args.self.now) (g.L.Link.calls c.args.work.now.link.now))) (sym c.requires.fresh)
+    ≡ status_input c.args.self.now.plan told c.args.wire c.args.bits (beginning (seen c.args.self.now) (g.L.Link.calls c.args.work.now.link.now))) (sym c.requires.begun.fresh)
     (elim c.then-not-ends_here.branch [
       | then-not-ends_here-via-then-not-ends_here w ↦
           status_apart c.args.self.now told c.args.wire c.args.bits (g.L.Link.calls c.args.work.now.link.now) (sym c.ends_here.ensures.ends ∙ w.if-not-ends_here.true)
@@ -34,9 +34,9 @@ returns-clause-step g c = map_on _ _ c.mend.result
     (mended c.args.self.now c.set_bits.new.self c.mend.new.self told (g.L.Link.calls c.args.work.now.link.now)
     (g.L.Link.calls c.mend.new.work.link.now) c.args.work.now.effects.now.list c.mend.new.work.effects.now
     (changes (with_bits c.args.wire c.args.bits) (beginning (seen c.args.self.now) (g.L.Link.calls c.args.work.now.link.now)))
-    (c.mend.ensures.goes.on.idle ∙ ap (λ (e : Effects). e.idle) c.requires.fresh) c.set_bits.ensures.keeps
+    (c.mend.ensures.goes.on.idle ∙ ap (λ (e : Effects). e.idle) c.requires.begun.fresh) c.set_bits.ensures.keeps
     (subst (λ (e : Effects). at_edge (seen c.set_bits.new.self) (g.L.Link.calls c.args.work.now.link.now) e.list
-    ≡ changes (with_bits c.args.wire c.args.bits) (beginning (seen c.args.self.now) (g.L.Link.calls c.args.work.now.link.now))) (sym c.requires.fresh)
+    ≡ changes (with_bits c.args.wire c.args.bits) (beginning (seen c.args.self.now) (g.L.Link.calls c.args.work.now.link.now))) (sym c.requires.begun.fresh)
     (bits_at c.args.self.now c.set_bits.new.self c.args.wire c.args.bits (g.L.Link.calls c.args.work.now.link.now) c.set_bits.ensures.step))
     (step told agrees)))
     c.mend.ensures.step

@@ -40,10 +40,7 @@ invariant_of-result c =
       marks = None;
     }))
     c.deref.ensures refl refl (record {
-      places = c.requires.places;
-      idle = c.requires.idle;
-      next = c.requires.next;
-      kept = c.requires.kept;
+      untold = c.requires.untold;
       unchosen = c.requires.spokes;
       unheard = c.in-Ok.ensures;
     }) c.in-Ok-first_lists.ensures.peerings c.in-Ok-first_lists.ensures.wires c.in-Ok-first_lists.ensures.zeros c.in-Ok-first_lists.ensures.priorities c.in-Ok-first_lists.ensures.ones refl refl)
@@ -83,10 +80,7 @@ returns-in-Ok-first_lists c =
       marks = None;
     }))
     c.deref.ensures refl refl (record {
-      places = c.requires.places;
-      idle = c.requires.idle;
-      next = c.requires.next;
-      kept = c.requires.kept;
+      untold = c.requires.untold;
       unchosen = c.requires.spokes;
       unheard = c.in-Ok.ensures;
     }) c.in-Ok-first_lists.ensures.peerings c.in-Ok-first_lists.ensures.wires c.in-Ok-first_lists.ensures.zeros c.in-Ok-first_lists.ensures.priorities c.in-Ok-first_lists.ensures.ones refl refl)

@@ -10,14 +10,14 @@ use Rattle.provider_edge.proofs.edge.Edge.with_word.Goals as goal
 pub returns-then-is_empty-clause-step : goal.returns-then-is_empty-clause-step
 returns-then-is_empty-clause-step g c = map_on _ _ c.drop_for.result
     (λ gave. λ told row binding agrees at held.
-    word_short c.args.self.now.plan told row (place_of c.args.self.now.ends c.args.slot) binding c.args.payload.now (seen c.args.self.now)
+    word_short c.args.self.now.plan told row (place_of c.args.self.now.ends c.args.slot) binding c.args.behind_label.now (seen c.args.self.now)
     (g.L.Link.calls c.args.work.now.link.now) c.args.work.now.effects.now.list _ (sym c.is_empty.ensures ∙ c.if-is_empty.true) gave)
     c.drop_for.ensures
 
 pub returns-then-is_channel-clause-step : goal.returns-then-is_channel-clause-step
 returns-then-is_channel-clause-step g c = map_on _ _ c.verify_in.result
     (λ step. λ told row binding agrees at held.
-    word_channel c.args.self.now.plan told row (place_of c.args.self.now.ends c.args.slot) binding (end_in c.args.self.now.ends c.args.slot).remote c.args.payload.now
+    word_channel c.args.self.now.plan told row (place_of c.args.self.now.ends c.args.slot) binding (end_in c.args.self.now.ends c.args.slot).remote c.args.behind_label.now
     (at_work g.L.Link.calls c.args.self.now c.args.work.now) _
     (sym c.is_empty.ensures ∙ c.if-is_empty.false) (sym c.is_channel.ensures ∙ c.if-is_channel.true) held (step told row agrees at))
     c.verify_in.ensures.step
@@ -25,6 +25,6 @@ returns-then-is_channel-clause-step g c = map_on _ _ c.verify_in.result
 pub returns-clause-step : goal.returns-clause-step
 returns-clause-step g c = map_on _ _ c.enter.result
     (λ step. λ told row binding agrees at held.
-    word_frame c.args.self.now.plan told row (place_of c.args.self.now.ends c.args.slot) binding c.args.payload.now (at_work g.L.Link.calls c.args.self.now c.args.work.now) _
+    word_frame c.args.self.now.plan told row (place_of c.args.self.now.ends c.args.slot) binding c.args.behind_label.now (at_work g.L.Link.calls c.args.self.now c.args.work.now) _
     (sym c.is_empty.ensures ∙ c.if-is_empty.false) (sym c.is_channel.ensures ∙ c.if-is_channel.false) (step told row agrees at))
     c.enter.ensures.step

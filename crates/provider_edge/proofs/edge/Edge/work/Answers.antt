@@ -12,11 +12,8 @@ use Rattle.provider_edge.proofs.AtWorkLemmas.{takes_by}
 use Rattle.provider_edge.proofs.EdgeLemmas.{begun, given_out}
 use Rattle.provider_edge.proofs.edge.Edge.work.Goals as goal
 
-pub connected-requires-clause-working : goal.connected-requires-clause-working
-connected-requires-clause-working g c = c.requires.working
-
-pub connected-requires-clause-fresh : goal.connected-requires-clause-fresh
-connected-requires-clause-fresh g c = c.requires.fresh
+pub connected-requires : goal.connected-requires
+connected-requires g c = c.requires.begun
 
 pub returns-in-Connected-clause-goes : goal.returns-in-Connected-clause-goes
 returns-in-Connected-clause-goes g c = c.connected.ensures.goes
@@ -26,11 +23,8 @@ returns-in-Connected-clause-step g c =
     input_done c.connected.result c.args.self.now c.connected.new.self (g.L.Link.calls c.args.work.now.link.now)
     (g.L.Link.calls c.connected.new.work.link.now) c.connected.new.work.effects.now c.args.input (input.Connected c.in-Connected.peer) c.in-Connected.is c.connected.ensures.step
 
-pub octets-requires-clause-working : goal.octets-requires-clause-working
-octets-requires-clause-working g c = c.requires.working
-
-pub octets-requires-clause-fresh : goal.octets-requires-clause-fresh
-octets-requires-clause-fresh g c = c.requires.fresh
+pub octets-requires : goal.octets-requires
+octets-requires g c = c.requires.begun
 
 pub returns-in-Octets-clause-goes : goal.returns-in-Octets-clause-goes
 returns-in-Octets-clause-goes g c = c.octets.ensures.goes
@@ -40,11 +34,8 @@ returns-in-Octets-clause-step g c =
     input_done c.octets.result c.args.self.now c.octets.new.self (g.L.Link.calls c.args.work.now.link.now)
     (g.L.Link.calls c.octets.new.work.link.now) c.octets.new.work.effects.now c.args.input (input.Octets c.in-Octets.peer c.in-Octets.bytes) c.in-Octets.is c.octets.ensures.step
 
-pub lost-requires-clause-working : goal.lost-requires-clause-working
-lost-requires-clause-working g c = c.requires.working
-
-pub lost-requires-clause-fresh : goal.lost-requires-clause-fresh
-lost-requires-clause-fresh g c = c.requires.fresh
+pub lost-requires : goal.lost-requires
+lost-requires g c = c.requires.begun
 
 pub returns-in-Lost-clause-goes : goal.returns-in-Lost-clause-goes
 returns-in-Lost-clause-goes g c = c.lost.ensures.goes
@@ -54,11 +45,8 @@ returns-in-Lost-clause-step g c =
     input_done c.lost.result c.args.self.now c.lost.new.self (g.L.Link.calls c.args.work.now.link.now)
     (g.L.Link.calls c.lost.new.work.link.now) c.lost.new.work.effects.now c.args.input (input.Lost c.in-Lost.peer) c.in-Lost.is c.lost.ensures.step
 
-pub tick-requires-clause-working : goal.tick-requires-clause-working
-tick-requires-clause-working g c = c.requires.working
-
-pub tick-requires-clause-fresh : goal.tick-requires-clause-fresh
-tick-requires-clause-fresh g c = c.requires.fresh
+pub tick-requires : goal.tick-requires
+tick-requires g c = c.requires.begun
 
 pub returns-in-Tick-clause-goes : goal.returns-in-Tick-clause-goes
 returns-in-Tick-clause-goes g c = c.tick.ensures.goes
@@ -68,11 +56,8 @@ returns-in-Tick-clause-step g c =
     input_done c.tick.result c.args.self.now c.tick.new.self (g.L.Link.calls c.args.work.now.link.now)
     (g.L.Link.calls c.tick.new.work.link.now) c.tick.new.work.effects.now c.args.input input.Tick c.in-Tick.is c.tick.ensures.step
 
-pub frame-requires-clause-working : goal.frame-requires-clause-working
-frame-requires-clause-working g c = c.requires.working
-
-pub frame-requires-clause-fresh : goal.frame-requires-clause-fresh
-frame-requires-clause-fresh g c = c.requires.fresh
+pub frame-requires-clause-begun : goal.frame-requires-clause-begun
+frame-requires-clause-begun g c = c.requires.begun
 
 pub frame-requires-clause-synced : goal.frame-requires-clause-synced
 frame-requires-clause-synced g c = c.requires.synced
@@ -86,7 +71,7 @@ returns-in-Frame-clause-step g c =
     (g.L.Link.calls c.frame.new.work.link.now) c.frame.new.work.effects.now c.args.input (input.Frame c.in-Frame.circuit c.in-Frame.bytes) c.in-Frame.is c.frame.ensures.step
 
 pub packet-requires-clause-working : goal.packet-requires-clause-working
-packet-requires-clause-working g c = c.requires.working
+packet-requires-clause-working g c = c.requires.begun.working
 
 pub packet-requires-clause-synced : goal.packet-requires-clause-synced
 packet-requires-clause-synced g c = c.requires.synced
@@ -100,17 +85,14 @@ returns-in-Packet-clause-step g c =
     (g.L.Link.calls c.packet.new.work.link.now) c.packet.new.work.effects.now c.args.input (input.Packet c.in-Packet.bytes) c.in-Packet.is
     (map_on _ _ c.packet.result
     (λ step told agrees.
-    given_out c.packet.new.self (g.L.Link.calls c.packet.new.work.link.now) c.packet.new.work.effects.now (c.packet.ensures.goes.on.idle ∙ ap (λ (e : Effects). e.idle) c.requires.fresh)
+    given_out c.packet.new.self (g.L.Link.calls c.packet.new.work.link.now) c.packet.new.work.effects.now (c.packet.ensures.goes.on.idle ∙ ap (λ (e : Effects). e.idle) c.requires.begun.fresh)
     ∙ (step told agrees
     ∙ ap (packet_input c.args.self.now.plan told c.in-Packet.bytes.now)
-    (ap (λ (e : Effects). at_edge (seen c.args.self.now) (g.L.Link.calls c.args.work.now.link.now) e.list) c.requires.fresh ∙ begun (seen c.args.self.now) (g.L.Link.calls c.args.work.now.link.now))))
+    (ap (λ (e : Effects). at_edge (seen c.args.self.now) (g.L.Link.calls c.args.work.now.link.now) e.list) c.requires.begun.fresh ∙ begun (seen c.args.self.now) (g.L.Link.calls c.args.work.now.link.now))))
     c.packet.ensures.step)
 
-pub circuit-requires-clause-working : goal.circuit-requires-clause-working
-circuit-requires-clause-working g c = c.requires.working
-
-pub circuit-requires-clause-fresh : goal.circuit-requires-clause-fresh
-circuit-requires-clause-fresh g c = c.requires.fresh
+pub circuit-requires : goal.circuit-requires
+circuit-requires g c = c.requires.begun
 
 pub returns-in-Circuit-clause-goes : goal.returns-in-Circuit-clause-goes
 returns-in-Circuit-clause-goes g c = c.circuit.ensures.goes
@@ -120,11 +102,8 @@ returns-in-Circuit-clause-step g c =
     input_done c.circuit.result c.args.self.now c.circuit.new.self (g.L.Link.calls c.args.work.now.link.now)
     (g.L.Link.calls c.circuit.new.work.link.now) c.circuit.new.work.effects.now c.args.input (input.Circuit c.in-Circuit.circuit c.in-Circuit.on) c.in-Circuit.is c.circuit.ensures.step
 
-pub wire-requires-clause-working : goal.wire-requires-clause-working
-wire-requires-clause-working g c = c.requires.working
-
-pub wire-requires-clause-fresh : goal.wire-requires-clause-fresh
-wire-requires-clause-fresh g c = c.requires.fresh
+pub wire-requires : goal.wire-requires
+wire-requires g c = c.requires.begun
 
 pub returns-in-Wire-clause-goes : goal.returns-in-Wire-clause-goes
 returns-in-Wire-clause-goes g c = c.wire.ensures.goes
@@ -134,11 +113,8 @@ returns-in-Wire-clause-step g c =
     input_done c.wire.result c.args.self.now c.wire.new.self (g.L.Link.calls c.args.work.now.link.now)
     (g.L.Link.calls c.wire.new.work.link.now) c.wire.new.work.effects.now c.args.input (input.Wire c.in-Wire.wire c.in-Wire.on) c.in-Wire.is c.wire.ensures.step
 
-pub status-requires-clause-working : goal.status-requires-clause-working
-status-requires-clause-working g c = c.requires.working
-
-pub status-requires-clause-fresh : goal.status-requires-clause-fresh
-status-requires-clause-fresh g c = c.requires.fresh
+pub status-requires-clause-begun : goal.status-requires-clause-begun
+status-requires-clause-begun g c = c.requires.begun
 
 pub returns-in-Status-clause-goes : goal.returns-in-Status-clause-goes
 returns-in-Status-clause-goes g c = c.status.ensures.goes
@@ -148,11 +124,8 @@ returns-in-Status-clause-step g c =
     input_done c.status.result c.args.self.now c.status.new.self (g.L.Link.calls c.args.work.now.link.now)
     (g.L.Link.calls c.status.new.work.link.now) c.status.new.work.effects.now c.args.input (input.Status c.in-Status.wire c.in-Status.bits) c.in-Status.is c.status.ensures.step
 
-pub priority-requires-clause-working : goal.priority-requires-clause-working
-priority-requires-clause-working g c = c.requires.working
-
-pub priority-requires-clause-fresh : goal.priority-requires-clause-fresh
-priority-requires-clause-fresh g c = c.requires.fresh
+pub priority-requires : goal.priority-requires
+priority-requires g c = c.requires.begun
 
 pub returns-in-Priority-clause-goes : goal.returns-in-Priority-clause-goes
 returns-in-Priority-clause-goes g c = c.priority.ensures.goes
@@ -165,11 +138,8 @@ returns-in-Priority-clause-step g c =
 pub returns-in-Restart-clause-goes : goal.returns-in-Restart-clause-goes
 returns-in-Restart-clause-goes g c = record { keeps = c.restart.ensures.keeps; link = refl; effects = refl; calls = goes_nowhere (g.L.Link.calls c.args.work.now.link.now) }
 
-pub ping-requires-clause-working : goal.ping-requires-clause-working
-ping-requires-clause-working g c = c.requires.working
-
-pub ping-requires-clause-fresh : goal.ping-requires-clause-fresh
-ping-requires-clause-fresh g c = c.requires.fresh
+pub ping-requires : goal.ping-requires
+ping-requires g c = c.requires.begun
 
 pub returns-in-Ping-clause-goes : goal.returns-in-Ping-clause-goes
 returns-in-Ping-clause-goes g c = c.ping.ensures.goes
