@@ -1,5 +1,5 @@
 //! A wire is put on or off, and the failure bits of the edge's end of it and the priority of a spoke are set.
-ghost use Rattle.edge_model.specs.{EndPlaces.{ends_here, passes}, State.{with_bits}, Wire.{turned_wire}};
+ghost use Rattle.edge_model.specs.{EndPlaces.{ends_here, passes}, State.{with_bits, with_priority}, Wire.{turned_wire}};
 ghost use Rattle.edge_model.specs.declared.input.Input.TheVariants.{Priority, Status, Wire};
 ghost use Rattle.std.specs.Prelude.{◌≡◌, ◌<◌, ◌≤◌, true, length, OnOk};
 ghost use Rattle.provider_edge.specs.{AtWork.{IsBegun, Takes, TakesBy}, Lists.{Keeps, seen}};
@@ -117,6 +117,18 @@ impl Edge {
     {
         let marks = self.marks_at(wire);
         self.bits[wire.0 as usize] = bits;
+        self.marks = marks;
+    }
+
+    // Sets the priority number of the spoke on a wire, and marks its ends.
+    fn set_priority(&mut self, wire: WireId, priority: u8)
+        requires working { self.old.stopped ≡ true }
+        requires within { wire.0 < length self.old.plan.wires }
+        ensures keeps { Keeps self.old self.new }
+        ensures step { seen self.new ≡ with_priority wire priority (seen self.old) }
+    {
+        let marks = self.marks_at(wire);
+        self.priorities[wire.0 as usize] = priority;
         self.marks = marks;
     }
 }

@@ -2,7 +2,7 @@
 ghost use Rattle.std.specs.Prelude.{◌≡◌, ◌<◌, ◌≤◌, ℕ, Some, None, true, length, IfOk, OnOk};
 ghost use Rattle.net_base.specs.plan.Places.{wire_row};
 ghost use Rattle.edge_model.specs.{EndPlaces.{end_places}, Spokes.{choice, choosing, spoke_at, spokes_of}};
-ghost use Rattle.edge_model.specs.{State.{put_at, with_chosen, with_priority}, Wire.{is_own_spoke}};
+ghost use Rattle.edge_model.specs.{State.{put_at, with_chosen}, Wire.{is_own_spoke}};
 ghost use Rattle.pw_ends.specs.Ends.{place_of};
 ghost use Rattle.provider_edge.specs.{Spokes.{slots_for}, Lists.{Keeps, seen}};
 ghost use Rattle.edge_forwarding.specs.Views.{view};
@@ -135,18 +135,6 @@ impl Edge {
         ensures { result ≡ (seen self.now).priority wire.0 }
     {
         self.priorities[wire.0 as usize]
-    }
-
-    // Sets the priority number of the spoke on a wire, and marks its ends.
-    pub(crate) fn set_priority(&mut self, wire: WireId, priority: u8)
-        requires working { self.old.stopped ≡ true }
-        requires within { wire.0 < length self.old.plan.wires }
-        ensures keeps { Keeps self.old self.new }
-        ensures step { seen self.new ≡ with_priority wire priority (seen self.old) }
-    {
-        let marks = self.marks_at(wire);
-        self.priorities[wire.0 as usize] = priority;
-        self.marks = marks;
     }
 
     // Whether the wire is a spoke that starts at the edge.

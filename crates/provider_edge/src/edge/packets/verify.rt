@@ -25,18 +25,18 @@ impl Edge {
         &self,
         slot: usize,
         kind: Cc,
-        payload: &[u8],
+        behind_label: &[u8],
         work: &mut AtWork<'_, L>,
     ) -> Result<(), NoMemory>
         requires { slot < length self.now.ends.places }
         ensures goes { WorkGoes L.calls work.old work.new }
         ensures step { OnOk result ((told : Answers) (row : WirePlan) → Agrees told (L.calls work.new.link.now) → wire_row self.now.plan (place_of self.now.ends slot).wire ≡ Some row
-            → at_work L.calls self.now work.new ≡ verified_by told (place_of self.now.ends slot) row kind (end_in self.now.ends slot).remote payload.now (at_work L.calls self.now work.old)) }
+            → at_work L.calls self.now work.new ≡ verified_by told (place_of self.now.ends slot) row kind (end_in self.now.ends slot).remote behind_label.now (at_work L.calls self.now work.old)) }
     {
         if !is_picked(kind, self.channel_at(slot)) {
             return drop_for(DropCause::NotOffered, &mut work.effects.list);
         }
-        self.verify(slot, kind, payload, work)
+        self.verify(slot, kind, behind_label, work)
     }
 
     // The type of control channel that the end of a slot picks, where it is bound (RFC 5085 section 7).
