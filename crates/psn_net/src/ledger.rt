@@ -39,6 +39,7 @@ impl Ledger {
     }
 
     /// Adds an entry. After `NoMemory` nothing has changed.
+    #[inline(always)]
     #[tactic(auto, using(crate::proofs::WeightLemmas::counted_more))]
     pub fn add(&mut self, entry: Entry) -> Result<(), NoMemory>
         ensures ok { OnOk result (self.new ≡ self.old ++ entry ∷ []) }
@@ -83,6 +84,7 @@ impl Ledger {
 }
 
 // An event counts as one.
+#[inline(always)]
 fn events_of_entry(entry: &Entry) -> u64
     ensures { result ≡ (if is_event entry.now then 1 else 0) }
 {
@@ -93,6 +95,7 @@ fn events_of_entry(entry: &Entry) -> u64
 }
 
 // How many octets of a frame, packet or PDU an entry holds.
+#[inline(always)]
 fn octets_in(entry: &Entry) -> usize
     ensures { result + 64 ≡ entry_weight entry.now }
 {

@@ -175,7 +175,8 @@ impl Parts {
         self.frame(alloc, circuit, bytes)
     }
 
-    // Adds an entry to the trace.
+    // Adds an entry to the trace. Where the kind of the entry is known, nothing asks for it.
+    #[inline(always)]
     #[tactic(auto, unfolding(crate::specs::Lists::network_seen))]
     pub(crate) fn tell(&mut self, entry: Entry) -> Result<(), NoMemory>
         ensures keeps { KeepsNetwork self.old self.new }
