@@ -1,5 +1,5 @@
 //! The trace of a run as it is written.
-ghost use Rattle.std.specs.Prelude.{◌≡◌, ◌<◌, ◌+◌, ◌++◌, ◌∷◌, [], OnErr, OnOk, if◌then◌else◌};
+ghost use Rattle.std.specs.Prelude.{◌≡◌, ◌<◌, ◌+◌, ◌++◌, ◌∷◌, [], IfOk, OnErr, OnOk, if◌then◌else◌};
 ghost use Rattle.psn_net.specs.Weight.{weight_of, entry_weight, is_event, next_event};
 
 use net_base::{Entry, Event, List, NoMemory, Trace};
@@ -27,15 +27,15 @@ impl Model for Ledger {
 }
 
 impl Ledger {
-    /// No entry yet.
-    pub fn new(alloc: Global) -> Ledger
-        ensures { result ≡ [] }
+    /// No entry yet, with room for so many.
+    pub fn with_capacity(alloc: Global, entries: usize) -> Result<Ledger, NoMemory>
+        ensures { IfOk result (λ ledger. ledger ≡ []) }
     {
-        Ledger {
-            trace: List::new(alloc),
+        Ok(Ledger {
+            trace: List::with_capacity(alloc, entries)?,
             weight: 0,
             events: 0,
-        }
+        })
     }
 
     /// Adds an entry. After `NoMemory` nothing has changed.

@@ -44,7 +44,6 @@ impl Model for Network {
 
 impl Network {
     /// The network of a plan before its first event.
-    #[tactic(auto, using(crate::proofs::IndexLemmas::indexed_first))]
     pub fn open(alloc: Global, plan: &Plan) -> Result<Network, NoMemory>
         requires { IsChecked plan.now }
         ensures plan { IfOk result (λ network. network.plan ≡ plan.now) }
@@ -52,8 +51,24 @@ impl Network {
         ensures trace { IfOk result (λ network. network.trace ≡ []) }
         ensures going { IfOk result (λ network. network.failed ≡ false) }
     {
+        Network::open_with_capacity(alloc, plan, 0)
+    }
+
+    /// The same with room for so many entries: the trace is not moved until there are more.
+    #[tactic(auto, using(crate::proofs::IndexLemmas::indexed_first))]
+    pub fn open_with_capacity(
+        alloc: Global,
+        plan: &Plan,
+        entries: usize,
+    ) -> Result<Network, NoMemory>
+        requires { IsChecked plan.now }
+        ensures plan { IfOk result (λ network. network.plan ≡ plan.now) }
+        ensures state { IfOk result (λ network. network_seen network ≡ empty_network plan.now) }
+        ensures trace { IfOk result (λ network. network.trace ≡ []) }
+        ensures going { IfOk result (λ network. network.failed ≡ false) }
+    {
         let index = PairIndex::open(alloc, plan.edges.len())?;
-        match Parts::open(alloc, plan) {
+        match Parts::open(alloc, plan, entries) {
             Ok(parts) => Ok(Network { parts, index }),
             Err(fault) => Err(fault),
         }

@@ -61,9 +61,9 @@ impl Model for Parts {
 }
 
 impl Parts {
-    /// The network of a plan before its first event.
+    /// The network of a plan before its first event, with room for so many entries.
     #[tactic(auto, using(crate::proofs::NetworkLemmas::opening))]
-    pub fn open(alloc: Global, plan: &Plan) -> Result<Parts, NoMemory>
+    pub fn open(alloc: Global, plan: &Plan, entries: usize) -> Result<Parts, NoMemory>
         requires { IsChecked plan.now }
         ensures plan { IfOk result (λ parts. parts.plan ≡ plan.now) }
         ensures state { IfOk result (λ parts. network_seen parts ≡ empty_network plan.now) }
@@ -79,7 +79,7 @@ impl Parts {
             pipes: Pipes::open(alloc, count)?,
             packets: Packets::new(alloc),
             entered: 0,
-            ledger: Ledger::new(alloc),
+            ledger: Ledger::with_capacity(alloc, entries)?,
             failed: false,
         })
     }

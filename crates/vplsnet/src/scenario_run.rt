@@ -12,6 +12,9 @@ use net_base::NoMemory;
 use psn_net::{NetStop, Network};
 use std::alloc::Global;
 
+/// A command mostly tells no more entries than this: its event, and what becomes of it.
+const ENTRIES: usize = 4;
+
 /// A run that is over: the network as it left it, and the limit that stopped it, where one did.
 #[derive(Drop)]
 pub struct ScenarioRun {
@@ -28,7 +31,8 @@ pub fn run_scenario(alloc: Global, work: Work) -> Result<ScenarioRun, NoMemory>
     ensures run { IfOk result (λ run. HasRun work.scenario work.captures run.network run.stop) }
 {
     see_types(&work.scenario.plan);
-    let mut network = match Network::open(alloc, &work.scenario.plan) {
+    let entries = work.scenario.commands.len().saturating_mul(ENTRIES);
+    let mut network = match Network::open_with_capacity(alloc, &work.scenario.plan, entries) {
         Ok(network) => network,
         Err(fault) => return Err(fault),
     };
