@@ -12,4 +12,4 @@ invariant_of-result c =
 pub returns-clause-state : goal.returns-clause-state
 returns-clause-state c =
     opened_state c.args.plan.now _ _ _ _ _ _ (c.in_ok-over.ensures ∙ (c.in_ok-plan.ensures.ok ∙ c.in_ok-copy.ensures)) c.len-count.ensures
-    (subst (λ (p : Plan). AreOpen p c.len-count.result c.in_ok-edges.edges.items) (sym c.in_ok-over.ensures) c.in_ok-edges.ensures) c.in_ok-open.ensures.empty c.new-2.ensures c.new-3.ensures
+    (subst (λ (p : Plan). AreOpen p c.len-count.result c.in_ok-edges.edges.items) (sym c.in_ok-over.ensures) c.in_ok-edges.ensures) c.in_ok-open.ensures.empty c.new-2.ensures c.in_ok-with_capacity.ensures
