@@ -22,7 +22,7 @@ impl Edge {
         requires begun { IsBegun self.old work.old }
         requires synced { InSync self.old.plan (seen self.old) }
         ensures goes { Takes L.calls self.old work.old self.new work.new }
-        ensures step { OnOk result (TakesBy L.calls self.old work.old self.new work.new (Frame circuit octets)) }
+        ensures step { OnOk result (TakesBy L.calls self.old work.old self.new work.new (Frame circuit octets.entry)) }
     {
         let Some(service) = self.own_service(circuit) else {
             work.effects.idle = true;

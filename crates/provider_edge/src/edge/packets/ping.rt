@@ -3,7 +3,7 @@ ghost use Rattle.std.specs.Prelude.{◌≡◌, ◌<◌, Some, true, length, IfOk
 ghost use Rattle.net_base.specs.{declared.plan.wire_plan.WirePlan.{WirePlan}, plan.Places.{wire_row}};
 ghost use Rattle.pw_ends.specs.Ends.{place_of};
 ghost use Rattle.edge_model.specs.{Echo.{ping_number}, Ping.{far_address, far_terminal, following_ping, pinging}};
-ghost use Rattle.edge_model.specs.declared.input.Input.TheVariants.{Ping};
+ghost use Rattle.edge_model.specs.declared.input.Input.TheVariants as input;
 ghost use Rattle.provider_edge.specs.{AtWork.{IsBegun, Takes, TakesBy}, Lists.{Keeps, seen}, Pings.{ping_of, request_of}};
 
 use crate::Edge;
@@ -24,7 +24,7 @@ impl Edge {
     ) -> Result<(), NoMemory>
         requires { IsBegun self.old work.old }
         ensures goes { Takes L.calls self.old work.old self.new work.new }
-        ensures step { OnOk result (TakesBy L.calls self.old work.old self.new work.new (Ping wire)) }
+        ensures step { OnOk result (TakesBy L.calls self.old work.old self.new work.new (input.Ping wire)) }
     {
         let Some(slot) = self.ends.terminal(wire) else {
             work.effects.idle = true;

@@ -26,7 +26,7 @@ impl Edge {
     ) -> Result<(), NoMemory>
         requires { IsBegun self.old work.old }
         ensures goes { Takes L.calls self.old work.old self.new work.new }
-        ensures step { OnOk result (TakesBy L.calls self.old work.old self.new work.new (Octets peer octets)) }
+        ensures step { OnOk result (TakesBy L.calls self.old work.old self.new work.new (Octets peer octets.entry)) }
     {
         let Some(held) = self.take_held(peer) else {
             work.effects.idle = true;
