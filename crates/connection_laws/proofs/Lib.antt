@@ -1,3 +1,4 @@
 pub mod EndLemmas
 pub mod NetworkLemmas
+pub mod RiseLemmas
 pub mod StepLemmas

@@ -17,7 +17,6 @@ use Rattle.session_core.specs.Phase as phase
 use Rattle.session_core.specs.State.{SessionState, is_active}
 use Rattle.session_core.specs.Table as table
 use Rattle.edge_model.specs.declared.effect.Effect.{Effect}
-use Rattle.edge_model.specs.declared.effect.Effect.TheVariants as effect
 use Rattle.edge_model.specs.Connection.{restart_input}
 use Rattle.edge_model.specs.Mend.{mends}
 use Rattle.edge_model.specs.Ping.{ping_input}

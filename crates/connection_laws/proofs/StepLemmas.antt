@@ -42,11 +42,11 @@ use Rattle.connection_laws.proofs.EndLemmas.{Stood, advice_stood, happens_stood,
 
 -- ---- changes of an edge that are no matter of its connections
 
-withdrawing_changed : (place : EndPlace) (edge : EdgeState) → (withdrawing place edge).peering ≡ edge.peering
+pub withdrawing_changed : (place : EndPlace) (edge : EdgeState) → (withdrawing place edge).peering ≡ edge.peering
 unfolding with_end
 withdrawing_changed place edge = refl
 
-telling_changed : (place : EndPlace) (status : PwStatus) (edge : EdgeState) → (telling_status place status edge).peering ≡ edge.peering
+pub telling_changed : (place : EndPlace) (status : PwStatus) (edge : EdgeState) → (telling_status place status edge).peering ≡ edge.peering
 unfolding with_end
 telling_changed place status edge = refl
 

@@ -1,5 +1,5 @@
 //! Laws of ends. These functions do nothing when they run; their contracts are the laws.
-ghost use Rattle.connection_laws.specs.Laws.{EndsAreLost, EndsComeByConnections};
+ghost use Rattle.connection_laws.specs.Laws.{DeliveriesRaise, EndsAreLost, EndsComeByConnections};
 
 /// An edge's end of a connection comes to stand by the event alone that connects the two edges.
 #[tactic(auto, using(crate::proofs::NetworkLemmas::come_by_connections))]
@@ -11,4 +11,10 @@ pub fn ends_come_by_connections()
 #[tactic(auto, using(crate::proofs::NetworkLemmas::are_lost))]
 pub fn ends_are_lost()
     ensures { EndsAreLost }
+{}
+
+/// An end that stands before and behind a delivery is in no earlier session state then.
+#[tactic(auto, using(crate::proofs::RiseLemmas::deliveries_raise))]
+pub fn deliveries_raise()
+    ensures { DeliveriesRaise }
 {}

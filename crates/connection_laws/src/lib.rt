@@ -3,4 +3,4 @@
 
 mod laws;
 
-pub use laws::{ends_are_lost, ends_come_by_connections};
+pub use laws::{deliveries_raise, ends_are_lost, ends_come_by_connections};

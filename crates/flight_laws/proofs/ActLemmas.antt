@@ -8,7 +8,6 @@ use Rattle.net_base.specs.declared.plan.places.EdgeId.{EdgeId}
 use Rattle.net_base.specs.plan.Paths.{edge_address}
 use Rattle.net_values.specs.declared.addr.Addr.{Addr}
 use Rattle.net_values.proofs.BoolLemmas.{first_holds, clash, second_holds}
-use Rattle.net_values.proofs.RowLemmas.{found_passes}
 use Rattle.ldp_grammar.specs.declared.message.Message.{Message}
 use Rattle.ldp_grammar.specs.declared.message.Message.TheVariants.{Notification, Initialization, KeepAlive, AddressWithdraw, LabelMapping, LabelWithdraw, LabelRelease}
 use Rattle.ldp_grammar.specs.declared.status_code.StatusCode.{StatusCode}

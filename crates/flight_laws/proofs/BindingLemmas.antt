@@ -1,5 +1,5 @@
 -- One wire's end at an edge and what its neighbour holds of it: what each message that is said or heard makes of the two.
-use Rattle.std.proofs.Common.{◌≡◌, ◌==◌, ◌+◌, ◌&&◌, ◌||◌, ◌++◌, ◌∙◌, not, ℕ, Bool, true, false, cond, List, [], ◌∷◌, Option, Some, None, is_some, refl, sym, ap, arith}
+use Rattle.std.proofs.Common.{◌≡◌, ◌==◌, ◌&&◌, ◌||◌, ◌++◌, ◌∙◌, not, ℕ, Bool, true, false, cond, List, [], ◌∷◌, Option, Some, None, is_some, refl, sym, ap, arith}
 use Rattle.std.proofs.lemmas.Bool.Decides.{nat_tests}
 use Rattle.std.proofs.lemmas.Bool.{eqb-true, and_from, or_right, or_left}
 use Rattle.net_values.proofs.BoolLemmas.{first_holds, clash, second_holds, or_append}
@@ -146,7 +146,7 @@ binding_tells pw_id next label told content status id far out back is = record {
 
 waits_out : (pw_id : ℕ) (next : ℕ → Bool) (near : LocalPart) (out back : List Message) (m : Message) → is_waited_for pw_id next near out back ≡ true
     → is_waited_for pw_id next near (out ++ m ∷ []) back ≡ true
-waits_out pw_id next (Idle declined) out back m waits = refl
+waits_out pw_id next (Idle declined) out back m waits = waits
 waits_out pw_id next (Advertised label told) out back m waits = waits
 waits_out pw_id next (Withdrawing label) out back m waits =
     and_from (next label) (some_message (is_withdrawal_of pw_id label) (out ++ m ∷ []) || some_message (is_release_of pw_id label) back)
@@ -160,7 +160,7 @@ waits_out pw_id next (Withdrawing label) out back m waits =
 
 waits_back : (pw_id : ℕ) (next : ℕ → Bool) (near : LocalPart) (out back : List Message) (m : Message) → is_waited_for pw_id next near out back ≡ true
     → is_waited_for pw_id next near out (back ++ m ∷ []) ≡ true
-waits_back pw_id next (Idle declined) out back m waits = refl
+waits_back pw_id next (Idle declined) out back m waits = waits
 waits_back pw_id next (Advertised label told) out back m waits = waits
 waits_back pw_id next (Withdrawing label) out back m waits =
     and_from (next label) (some_message (is_withdrawal_of pw_id label) out || some_message (is_release_of pw_id label) (back ++ m ∷ []))
@@ -276,20 +276,20 @@ binding_goes_on pw_id next next2 near far out back follows is = record {
         (second_holds (next label) (not (has_advertised near label)) old)
 
     waits : (near : LocalPart) → is_waited_for pw_id next near out back ≡ true → is_waited_for pw_id next2 near out back ≡ true
-    waits (Idle declined) h = refl
+    waits (Idle declined) h = h
     waits (Advertised label told) h = follows label h
     waits (Withdrawing label) h =
         and_from (next2 label) (some_message (is_withdrawal_of pw_id label) out || some_message (is_release_of pw_id label) back)
         (follows label (first_holds (next label) (some_message (is_withdrawal_of pw_id label) out || some_message (is_release_of pw_id label) back) h))
         (second_holds (next label) (some_message (is_withdrawal_of pw_id label) out || some_message (is_release_of pw_id label) back) h)
 
--- an idle end is declined no longer, or is declined
-pub binding_renews : (pw_id : ℕ) (next : ℕ → Bool) (one other : Bool) (far : Option Binding) (out back : List Message) → IsBoundBy pw_id next (Idle one) far out back
-    → IsBoundBy pw_id next (Idle other) far out back
-binding_renews pw_id next one other far out back is = record {
+-- an idle end is declined no longer
+pub binding_renews : (pw_id : ℕ) (next : ℕ → Bool) (one : Bool) (far : Option Binding) (out back : List Message) → IsBoundBy pw_id next (Idle one) far out back
+    → IsBoundBy pw_id next (Idle false) far out back
+binding_renews pw_id next one far out back is = record {
   agrees = is.agrees;
-  withdrawn = all_weaker (withdraws_old pw_id next (Idle one)) (withdraws_old pw_id next (Idle other)) out (withdraws_older pw_id next next (Idle one) (Idle other) (λ label old. old)) is.withdrawn;
-  released = all_weaker (releases_old pw_id next (Idle one)) (releases_old pw_id next (Idle other)) back (releases_older pw_id next next (Idle one) (Idle other) (λ label old. old)) is.released;
+  withdrawn = all_weaker (withdraws_old pw_id next (Idle one)) (withdraws_old pw_id next (Idle false)) out (withdraws_older pw_id next next (Idle one) (Idle false) (λ label old. old)) is.withdrawn;
+  released = all_weaker (releases_old pw_id next (Idle one)) (releases_old pw_id next (Idle false)) back (releases_older pw_id next next (Idle one) (Idle false) (λ label old. old)) is.released;
   waits = refl;
 }
 
@@ -312,7 +312,7 @@ binding_heard pw_id next near far m out back other is = record {
   where
     waits : (near : LocalPart) → ((label : ℕ) → near ≡ Withdrawing label → is_withdrawal_of pw_id label m ≡ false) → is_waited_for pw_id next near (m ∷ out) back ≡ true
         → is_waited_for pw_id next near out back ≡ true
-    waits (Idle declined) other h = refl
+    waits (Idle declined) other h = h
     waits (Advertised label told) other h = h
     waits (Withdrawing label) other h = rw (other label refl) at h
 
@@ -330,7 +330,7 @@ binding_hears_withdrawal pw_id next near far id id2 fec fec2 label out back same
 }
   where
     waits : (near : LocalPart) → is_waited_for pw_id next near (LabelWithdraw id fec label ∷ out) back ≡ true → is_waited_for pw_id next near out (back ++ LabelRelease id2 fec2 label ∷ []) ≡ true
-    waits (Idle declined) h = refl
+    waits (Idle declined) h = h
     waits (Advertised own told) h = h
     waits (Withdrawing own) h =
         and_from (next own) (some_message (is_withdrawal_of pw_id own) out || some_message (is_release_of pw_id own) (back ++ LabelRelease id2 fec2 label ∷ []))
@@ -366,7 +366,7 @@ hears_other pw_id next near far m out back other is = record {
 }
   where
     waits : (near : LocalPart) → is_waited_for pw_id next near out (m ∷ back) ≡ true → is_waited_for pw_id next near out back ≡ true
-    waits (Idle declined) h = refl
+    waits (Idle declined) h = h
     waits (Advertised label told) h = h
     waits (Withdrawing label) h = rw (other label) at h
 
@@ -380,18 +380,21 @@ hears_old pw_id next near far id label fec out back old named is = record {
   released = all_weaker (releases_old pw_id next near) (releases_old pw_id next (release_part (Some label) near)) back
       (releases_older pw_id next next near (release_part (Some label) near) (λ other is. still_old next near label other is))
       (second_holds (names_old pw_id next near fec.pw_id (Some label)) (all_messages (releases_old pw_id next near) back) is.released);
-  waits = waits near (rw named at is.waits);
+  waits = waits near old (rw named at is.waits);
 }
   where
-    waits : (near : LocalPart) → is_waited_for pw_id next near out (LabelRelease id (record fec { pw_id = Some pw_id }) (Some label) ∷ back) ≡ true
+    waits : (near : LocalPart) → is_old next near label ≡ true → is_waited_for pw_id next near out (LabelRelease id (record fec { pw_id = Some pw_id }) (Some label) ∷ back) ≡ true
         → is_waited_for pw_id next (release_part (Some label) near) out back ≡ true
-    waits (Idle declined) h = refl
-    waits (Advertised own told) h = by_label (label == own)
+    waits (Idle declined) old h = h
+    waits (Advertised own told) old h = by_label (label == own) refl
       where
-        by_label : (same : Bool) → is_waited_for pw_id next (cond same (Idle true) (Advertised own told)) out back ≡ true
-        by_label true = refl
-        by_label false = h
-    waits (Withdrawing own) h = by_label (label == own) (rw (itself pw_id) at h)
+        apart : (own label : ℕ) (given : Bool) → given && not (own == label) ≡ true → (label == own) ≡ false
+        apart own label given old = grind (arith, nat_tests)
+
+        by_label : (same : Bool) → (label == own) ≡ same → is_waited_for pw_id next (cond same (Idle true) (Advertised own told)) out back ≡ true
+        by_label true is = clash (sym (apart own label (next label) old) ∙ is)
+        by_label false is = h
+    waits (Withdrawing own) old h = by_label (label == own) (rw (itself pw_id) at h)
       where
         by_label : (same : Bool) → next own && (some_message (is_withdrawal_of pw_id own) out || (same || some_message (is_release_of pw_id own) back)) ≡ true
             → is_waited_for pw_id next (cond same (Idle false) (Withdrawing own)) out back ≡ true

@@ -27,7 +27,7 @@ use Rattle.edge_model.specs.Work.{Work, changes, gives, idles}
 use Rattle.network_model.specs.Absorb.{begin_at, idle, taken_all}
 use Rattle.network_model.specs.Connection.{connect_event, connected_work, connecting}
 use Rattle.network_model.specs.State.{NetworkState, held, stands}
-use Rattle.flight_laws.specs.Binding.{is_idle}
+use Rattle.flight_laws.specs.Binding.{is_unasked}
 use Rattle.flight_laws.specs.Bound.{AreBound, AreBoundBy, HasSaid, given_of, IsBoundBy, LeavesBound}
 use Rattle.flight_laws.specs.Coming.{is_talk}
 use Rattle.flight_laws.specs.Ends.{HasTypes, IsOrdered, ends_at}
@@ -53,12 +53,12 @@ use Rattle.flight_laws.proofs.WorkBindingLemmas.{HoldsAll, HoldsOctets, held_ste
 
 -- ---- ends of a session that is not up
 
-idle_bound : (pw_id : ℕ) (next : ℕ → Bool) (near : LocalPart) (far : Option Binding) → is_idle near ≡ true → far ≡ None → IsBoundBy pw_id next near far [] []
-idle_bound pw_id next (Idle declined) far idle none = record { agrees = none; withdrawn = refl; released = refl; waits = refl }
+idle_bound : (pw_id : ℕ) (next : ℕ → Bool) (near : LocalPart) (far : Option Binding) → is_unasked near ≡ true → far ≡ None → IsBoundBy pw_id next near far [] []
+idle_bound pw_id next (Idle declined) far idle none = record { agrees = none; withdrawn = refl; released = refl; waits = idle }
 idle_bound pw_id next (Advertised label told) far idle none = clash idle
 idle_bound pw_id next (Withdrawing label) far idle none = clash idle
 
-pub low_end : (limit : ℕ) (up : Bool) (e : EndState) → up ≡ false → IsSoundEnd limit up e → (is_idle e.local ≡ true) × (e.remote ≡ None)
+pub low_end : (limit : ℕ) (up : Bool) (e : EndState) → up ≡ false → IsSoundEnd limit up e → (is_unasked e.local ≡ true) × (e.remote ≡ None)
 low_end limit true e low sound = clash (sym low)
 low_end limit false e low sound = sound
 

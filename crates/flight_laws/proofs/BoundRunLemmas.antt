@@ -26,7 +26,7 @@ use Rattle.network_model.specs.Packet.{packet_at}
 use Rattle.network_model.specs.Run.{state_after}
 use Rattle.network_model.specs.State.{NetworkState, empty_network, held, stands}
 use Rattle.network_model.specs.Step.{brings, step}
-use Rattle.flight_laws.specs.Binding.{is_withdrawing}
+use Rattle.flight_laws.specs.Binding.{is_idle, is_unasked, is_withdrawing}
 use Rattle.flight_laws.specs.Bound.{AreBound, IsBoundBy, given_of, is_waited_for}
 use Rattle.flight_laws.specs.Ends.{HasTypes, IsOrdered, ends_at}
 use Rattle.flight_laws.specs.Facts.{flight}
@@ -170,13 +170,23 @@ agreed plan network a b quiet now wire row is joined =
 
 -- ---- between two ends that do not stand
 
+unasked_idle : (local : LocalPart) → is_unasked local ≡ true → is_idle local ≡ true
+unasked_idle (Idle declined) is = refl
+unasked_idle (Advertised label told) is = is
+unasked_idle (Withdrawing label) is = is
+
 unbound : (plan : Plan) (network : NetworkState) (a b : ℕ) → IsOrdered plan network → stands network a b ≡ false → stands network b a ≡ false → OfWires plan network a b IsUnbound
 unbound plan network a b ordered gone gone' wire row is joined =
     let one = low_end (point_limit plan a wire.0) (is_up_with ((network.edges a).peering b)) ((network.edges a).ends wire.0 b) (gone_up ((network.edges a).peering b) gone)
     ((ordered.sound a).ends wire.0 b) in
     let other = low_end (point_limit plan b wire.0) (is_up_with ((network.edges b).peering a)) ((network.edges b).ends wire.0 a) (gone_up ((network.edges b).peering a) gone')
     ((ordered.sound b).ends wire.0 a) in
-    record { one_idle = one.0; other_idle = other.0; near = one.1; far = other.1 }
+    record {
+      one_idle = unasked_idle ((network.edges a).ends wire.0 b).local one.0;
+      other_idle = unasked_idle ((network.edges b).ends wire.0 a).local other.0;
+      near = one.1;
+      far = other.1;
+    }
 
 pub runs_settle : RunsSettle
 runs_settle plan events run service quiet a b joined =

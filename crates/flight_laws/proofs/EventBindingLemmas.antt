@@ -99,7 +99,7 @@ pub no_far : (plan : Plan) (me : EdgeId) (place : ℕ) (far : EdgeState) (out : 
 no_far plan me place far out answers work none = record { bound = λ messages are is near other. clash (sym (ap is_there none) ∙ other) }
 
 -- what the event makes of the edge
-happens_is : (peer : EdgeId) (event : SessionEvent) (kept : Peering) (o : Outcome) (work : Work) → work.edge.peering peer.0 ≡ Some kept → outcome_of kept.session event ≡ o
+pub happens_is : (peer : EdgeId) (event : SessionEvent) (kept : Peering) (o : Outcome) (work : Work) → work.edge.peering peer.0 ≡ Some kept → outcome_of kept.session event ≡ o
     → happens taken_all peer event work ≡ comes_of taken_all peer kept o work
 happens_is peer event kept o work at is = rw (at, is) refl
 

@@ -59,6 +59,7 @@ pub mod SettleLemmas
 pub mod SoundLemmas
 pub mod SpokenLemmas
 pub mod StableLemmas
+pub mod StayLemmas
 pub mod SteadyLemmas
 mod StitchExamples
 pub mod TalkLemmas

@@ -1,7 +1,8 @@
 -- In every state of a run each edge has mended: its ends tell what they should.
-use Rattle.std.proofs.Common.{◌≡◌, ◌+◌, ◌==◌, ◌&&◌, ◌∙◌, ℕ, zero, suc, Bool, true, false, not, cond, drop, take, length, nat_eq, List, [], ◌∷◌, Option, Some, None, slice_get, refl, sym, ap, subst, inl, inr}
+use Rattle.std.proofs.Common.{◌≡◌, ◌+◌, ◌==◌, ◌&&◌, ◌∙◌, map, position, option_and_then, option_map, arith, ℕ, zero, suc, Bool, true, false, not, cond, drop, take, length, nat_eq, List, [], ◌∷◌, Option, Some, None, slice_get, refl, sym, ap, subst, inl, inr}
 use Rattle.std.proofs.lemmas.Bool.{cases_Bool, eqb-true}
-use Rattle.std.specs.List.{AllByRecursion}
+use Rattle.std.specs.List.{AllByRecursion, position_or_len}
+use Rattle.net_values.proofs.NumberLemmas.{not_below_itself}
 use Rattle.net_base.specs.declared.plan.Plan.{Plan}
 use Rattle.net_base.specs.declared.plan.circuit_plan.CircuitPlan.{CircuitPlan}
 use Rattle.net_base.specs.declared.plan.edge_plan.EdgePlan.{EdgePlan}
@@ -33,6 +34,13 @@ use Rattle.edge_model.specs.Ping.{ping_input}
 use Rattle.edge_model.specs.Tick.{counted, forgetting, tick_input, ticks_sessions}
 use Rattle.edge_model.specs.Wire.{is_own_spoke, priority_input, status_input, turned_wire, wire_input}
 use Rattle.edge_model.specs.Work.{Work, changes, idles}
+use Rattle.edge_model.specs.Spokes.{choice, spoke_at, spoke_places}
+use Rattle.edge_model.proofs.ChoiceLemmas.{HasChosen}
+use Rattle.spoke_redundancy.specs.Choice.{is_best}
+use Rattle.spoke_redundancy.specs.declared.spoke.Spoke.{Spoke}
+use Rattle.pw_signalling.specs.declared.end_role.EndRole.TheVariants as role
+use Rattle.pw_signalling.specs.Down.{down}
+use Rattle.net_base.specs.declared.trace.down.Down.TheVariants as cause
 use Rattle.edge_model.proofs.BridgeLemmas.{LearnsOnly, PingsInput, frame_bridges, learns_is, packet_bridges, ping_bridges}
 use Rattle.edge_model.specs.Settled.{is_mended, is_told}
 use Rattle.edge_model.proofs.MendedLemmas.{IsMended, mends_mended}
@@ -58,17 +66,19 @@ use Rattle.flight_laws.specs.Laws.{IsRun, network_after}
 
 -- ---- an edge that has mended
 
--- the edge is at its place, and each of its ends tells what it should, and the status of now
+-- the edge is at its place, each of its ends tells what it should, and the status of now, and it has chosen among its spokes
 pub record IsMendedAt (plan : Plan) (k : ℕ) (edge : EdgeState) : Type 0 where
   pub me : edge.me ≡ record { 0 = k }
   pub ends : AllByRecursion (λ place. is_mended plan edge place ≡ true) (end_places plan (record { 0 = k }))
   pub statuses : AllByRecursion (λ place. is_told plan edge place ≡ true) (end_places plan (record { 0 = k }))
+  pub chosen : HasChosen plan edge
 
 pub mended_at : (plan : Plan) (k : ℕ) (edge : EdgeState) → edge.me ≡ record { 0 = k } → IsMended plan edge → IsMendedAt plan k edge
 mended_at plan k edge me mended = record {
   me = me;
   ends = subst (λ (e : EdgeId). AllByRecursion (λ place. is_mended plan edge place ≡ true) (end_places plan e)) me mended.ends;
   statuses = subst (λ (e : EdgeId). AllByRecursion (λ place. is_told plan edge place ≡ true) (end_places plan e)) me mended.statuses;
+  chosen = mended.chosen;
 }
 
 silent_wish : (plan : Plan) (edge : EdgeState) (place : EndPlace) (row : Option WirePlan) → edge.peering place.peer.0 ≡ None → wish_of plan edge place row ≡ None
@@ -81,9 +91,34 @@ silent_wish plan edge place (Some row) none = by (edge.wire_on place.wire.0) (wi
   by true wished = ap (λ (b : Bool). cond b wished None) low
   by false wished = refl
 
+-- an end of which nothing was told would not forward
+fresh_down : (bits : ℕ) → down role.Chosen bits fresh ≡ Some cause.NoLocal
+unfolding down
+fresh_down bits = refl
+
+-- none of its spokes is chosen
+unused_len : (edge : EdgeState) (spokes : List Spoke) (places : List EndPlace) → ((wire peer : ℕ) → edge.ends wire peer ≡ fresh)
+    → position_or_len (is_best spokes) (map (spoke_at edge) places) ≡ length (map (spoke_at edge) places)
+unused_len edge spokes [] ends = refl
+unused_len edge spokes (place ∷ places) ends = rw unused (one_more (unused_len edge spokes places ends)) where
+  unused : is_best spokes (spoke_at edge place) ≡ false
+  unused = rw (ends place.wire.0 place.peer.0, fresh_down (edge.bits place.wire.0)) refl
+
+  one_more : {m n : ℕ} → m ≡ n → 1 + m ≡ suc n
+  one_more e = omega arith
+
+none_best : (edge : EdgeState) (spokes : List Spoke) (places : List EndPlace) → ((wire peer : ℕ) → edge.ends wire peer ≡ fresh) → position (is_best spokes) (map (spoke_at edge) places) ≡ None
+none_best edge spokes places ends = rw (unused_len edge spokes places ends, not_below_itself (length (map (spoke_at edge) places))) refl
+
+silent_choice : (plan : Plan) (edge : EdgeState) → ((wire peer : ℕ) → edge.ends wire peer ≡ fresh) → (service : ℕ) → choice plan edge (record { 0 = service }) ≡ None
+silent_choice plan edge ends service =
+    let places : List EndPlace = spoke_places plan edge.me (record { 0 = service }) in
+    ap (λ (o : Option ℕ). option_map (λ (place : EndPlace). place.wire) (option_and_then (slice_get places) o)) (none_best edge (map (spoke_at edge) places) places ends)
+
 silent_mended : (plan : Plan) (k : ℕ) (edge : EdgeState) → edge.me ≡ record { 0 = k } → ((wire peer : ℕ) → edge.ends wire peer ≡ fresh) → ((peer : ℕ) → edge.peering peer ≡ None)
-    → IsMendedAt plan k edge
-silent_mended plan k edge me ends none = record {
+    → ((service : ℕ) → edge.chosen service ≡ None) → IsMendedAt plan k edge
+silent_mended plan k edge me ends none unchosen = record {
+  chosen = λ service. unchosen service ∙ sym (silent_choice plan edge ends service);
   me = me;
   ends = all_of (λ place. is_mended plan edge place ≡ true)
       (λ place. rw (ends place.wire.0 place.peer.0, silent_wish plan edge place (wire_row plan place.wire) (none place.peer.0)) refl) (end_places plan (record { 0 = k }));
@@ -137,7 +172,7 @@ module _ (plan : Plan) (checked : IsChecked plan) where
 
     restart_mend : IsMendedAt plan k (restart_input work).edge
     unfolding changes without_ends with_learned without_peerings with_kept
-    restart_mend = silent_mended plan k (restart_input work).edge mended.me (λ wire peer. refl) (λ peer. refl)
+    restart_mend = silent_mended plan k (restart_input work).edge mended.me (λ wire peer. refl) (λ peer. refl) (λ service. refl)
 
     tick_mend : IsMendedAt plan k (tick_input plan taken_all work).edge
     tick_mend = mended_at plan k (tick_input plan taken_all work).edge ((tick_works plan taken_all work).me ∙ mended.me)
@@ -145,7 +180,7 @@ module _ (plan : Plan) (checked : IsChecked plan) where
         (has_one_end plan (changes (forgetting plan) (ticks_sessions taken_all 0 (length plan.edges) (changes counted work))).edge.me checked))
 
     learns_mend : (new : EdgeState) → LearnsOnly work.edge new → IsMendedAt plan k new
-    learns_mend new only = subst (IsMendedAt plan k) (sym (learns_is work.edge new only)) (record { me = mended.me; ends = mended.ends; statuses = mended.statuses })
+    learns_mend new only = subst (IsMendedAt plan k) (sym (learns_is work.edge new only)) (record { me = mended.me; ends = mended.ends; statuses = mended.statuses; chosen = mended.chosen })
 
     circuit_mend : (circuit : CircuitId) (on : Bool) (row : Option CircuitPlan) → IsMendedAt plan k (circuit_input plan taken_all circuit on row work).edge
     circuit_mend circuit on None = idles_mend
@@ -161,7 +196,7 @@ module _ (plan : Plan) (checked : IsChecked plan) where
     ping_mend : (wire : WireId) → IsMendedAt plan k (ping_input plan taken_all wire work).edge
     ping_mend wire =
         let pings : PingsInput work (ping_input plan taken_all wire work) = ping_bridges plan taken_all wire work in
-        subst (IsMendedAt plan k) (sym pings.edge) (record { me = mended.me; ends = mended.ends; statuses = mended.statuses })
+        subst (IsMendedAt plan k) (sym pings.edge) (record { me = mended.me; ends = mended.ends; statuses = mended.statuses; chosen = mended.chosen })
 
     wire_mend : (wire : WireId) (on : Bool) → IsMendedAt plan k (wire_input plan taken_all wire on work).edge
     wire_mend wire on = applies_mend (passes plan work.edge.me wire && not (is_same on (work.edge.wire_on wire.0))) (changes (turned_wire wire on) work) (turned_wire_me wire on work)
@@ -358,4 +393,4 @@ module _ (plan : Plan) (checked : IsChecked plan) where
 -- ---- runs
 
 pub run_mended_at : (plan : Plan) (events : List Event) → IsRun plan events → HoldsOfEach (IsMendedAt plan) (network_after plan events)
-run_mended_at plan events run = after_holds plan run.checked events (empty_network plan) (λ k. silent_mended plan k (empty_edge plan (record { 0 = k })) refl (λ wire peer. refl) (λ peer. refl))
+run_mended_at plan events run = after_holds plan run.checked events (empty_network plan) (λ k. silent_mended plan k (empty_edge plan (record { 0 = k })) refl (λ wire peer. refl) (λ peer. refl) (λ service. refl))

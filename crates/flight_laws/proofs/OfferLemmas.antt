@@ -1,5 +1,5 @@
 -- What an edge tells of a pseudowire can be written, and is octets.
-use Rattle.std.proofs.Common.{◌≡◌, ◌≤◌, ◌<◌, ◌+◌, ◌^◌, ◌++◌, ◌&&◌, ℕ, Bool, true, false, cond, not, nat_le, length, flat_map, List, [], ◌∷◌, Option, Some, None, refl, length-append, inr, arith}
+use Rattle.std.proofs.Common.{◌≡◌, ◌≤◌, ◌<◌, ◌+◌, ◌^◌, ◌++◌, ◌&&◌, ℕ, Bool, true, false, cond, nat_le, length, flat_map, List, [], ◌∷◌, Option, Some, None, refl, length-append, inr, arith}
 use Rattle.std.specs.Prelude.{IfSome, is_some, option_map}
 use Rattle.std.specs.List.{AllByRecursion}
 use Rattle.std.proofs.lemmas.Bool.Decides.{nat_tests}
@@ -34,7 +34,7 @@ use Rattle.ldp_grammar.specs.declared.message.Message.TheVariants.{LabelMapping}
 use Rattle.ldp_grammar.proofs.ReadingLemmas.{octets_behind}
 use Rattle.ldp_grammar.proofs.ShortLemmas.{parameters_short}
 use Rattle.flight_laws.specs.Ends.{IsFieldOffer}
-use Rattle.flight_laws.specs.Flight.{is_initialization}
+use Rattle.flight_laws.specs.Flight.{is_plain}
 use Rattle.flight_laws.specs.Messages.{HaveOctets, IsSaidAcross, IsSound}
 use Rattle.flight_laws.specs.Sound.{CanBeMapped, IsSoundTold}
 use Rattle.flight_laws.proofs.PieceLemmas.{IsPiece, macs_octets}
@@ -42,7 +42,7 @@ use Rattle.flight_laws.proofs.PieceLemmas.{IsPiece, macs_octets}
 -- a message of pseudowires, by its Message ID: any ends may say it, and it is no Initialization
 pub record IsOfWires (message : ℕ → Message) : Type 0 where
   pub said : (ends : Peers) (id : ℕ) → id < 2 ^ 32 → IsSaidAcross ends (message id)
-  pub plain : (id : ℕ) → not (is_initialization (message id)) ≡ true
+  pub plain : (id : ℕ) → is_plain (message id) ≡ true
 
 -- ---- octets of parameters
 

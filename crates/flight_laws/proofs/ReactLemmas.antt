@@ -1,5 +1,5 @@
 -- Two ends stay in step through each event of one of them.
-use Rattle.std.proofs.Common.{◌≡◌, ◌≤◌, ◌<◌, ◌^◌, ◌++◌, ◌∙◌, ℕ, true, false, not, min, List, [], ◌∷◌, Option, Some, None, option_map, refl, sym, ap, subst, arith}
+use Rattle.std.proofs.Common.{◌≡◌, ◌≤◌, ◌<◌, ◌^◌, ◌++◌, ◌∙◌, ℕ, true, false, min, List, [], ◌∷◌, Option, Some, None, option_map, refl, sym, ap, subst, arith}
 use Rattle.std.proofs.lemmas.Bool.Decides.{nat_tests}
 use Rattle.std.proofs.lemmas.Bool.{cases_Bool}
 use Rattle.std.proofs.Common.{inl, inr}
@@ -26,7 +26,7 @@ use Rattle.edge_model.specs.Put.{having_spoken, octets_of}
 use Rattle.edge_model.specs.Session.{with_session}
 use Rattle.edge_model.specs.State.{Peering}
 use Rattle.flight_laws.specs.Coming.{and_more, is_talk}
-use Rattle.flight_laws.specs.Flight.{is_initialization}
+use Rattle.flight_laws.specs.Flight.{is_plain}
 use Rattle.flight_laws.specs.Messages.{AreSaid, IsSaidAcross, expiry, octets_of_all}
 use Rattle.flight_laws.specs.Pair.{AreTalking, IsStanding, StayInStep, messages_put, octets_put, phase_of}
 use Rattle.flight_laws.proofs.SaidLemmas.{active_init, fatal_ends, keep_alive, keeping_form, opening_form, passive_init, said-append, said_sender, stays_up}
@@ -106,7 +106,7 @@ agreed_stands own other kept is =
     no : phase.OpenRec ≡ phase.Initialized → ⊥
     no e = cc
 
-acceptable : (own other : Peers) (kept : Peering) → IsStanding own other kept → proposal_refusal kept.session.peers (proposal other) ≡ None
+pub acceptable : (own other : Peers) (kept : Peering) → IsStanding own other kept → proposal_refusal kept.session.peers (proposal other) ≡ None
 acceptable own other kept is = rw is.peers (ends_agree.acceptable other own is.between.back is.between.two.proper)
 
 -- what a session that goes on says once it has taken a message
@@ -200,7 +200,7 @@ received_in_step own other kept far out back m t = elim (cases_Bool (is_fatal m)
 -- ---- a message about pseudowires is said
 
 pub says_in_step : (own other : Peers) (kept : Peering) (far : Option Peering) (out back : List Message) (m : Message) → kept.session.phase ≡ phase.Operational → IsSaidAcross own m
-    → not (is_initialization m) ≡ true
+    → is_plain m ≡ true
     → AreTalking own other (Some kept) far out back → AreTalking own other (Some (having_spoken kept)) far (and_more far out (m ∷ [])) back
 says_in_step own other kept far out back m at said plain t = record {
   said = more_said own far out (m ∷ []) t.said (said, tt);

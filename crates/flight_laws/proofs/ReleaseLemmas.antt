@@ -1,5 +1,5 @@
 -- Every run keeps to what is on its way of labels that are withdrawn.
-use Rattle.std.proofs.Common.{◌≡◌, ◌||◌, ◌∙◌, not, nat_eq, ℕ, Bool, true, false, List, [], ◌∷◌, Option, Some, None, option_and_then, refl, sym, ap, subst, inl, inr}
+use Rattle.std.proofs.Common.{◌≡◌, ◌≢◌, ◌||◌, ◌∙◌, not, nat_eq, ℕ, Bool, true, false, List, [], ◌∷◌, Option, Some, None, option_and_then, refl, sym, ap, subst, inl, inr}
 use Rattle.std.proofs.lemmas.Bool.{cases_Bool, not-true}
 use Rattle.net_values.proofs.BoolLemmas.{first_holds, clash, second_holds, clash_at}
 use Rattle.net_values.proofs.NumberLemmas.{same_number, apart_back}
@@ -25,7 +25,7 @@ use Rattle.flight_laws.specs.Facts.{flight}
 use Rattle.flight_laws.specs.Flight.{all_messages}
 use Rattle.flight_laws.specs.Laws.{AreOnWay, network_after}
 use Rattle.flight_laws.specs.Pair.{ArePaired}
-use Rattle.flight_laws.specs.Releases.{AwaitsRelease, NamesUnadvertised, RunsAwaitReleases, RunsReleaseUnadvertised}
+use Rattle.flight_laws.specs.Releases.{AwaitsRelease, NamesUnadvertised, RunsAwaitReleases, RunsDeclineNone, RunsReleaseUnadvertised}
 use Rattle.flight_laws.specs.Rules.{AllMessages, MayNameAt, NamesTold, part_owns}
 use Rattle.flight_laws.proofs.BoundRunLemmas.{AreBoundNow, bound_now, run_bounds}
 use Rattle.flight_laws.proofs.PlaceLemmas.{wire_named}
@@ -57,6 +57,20 @@ runs_await_releases plan events run a b both =
       goes = record { octets = now.pair.out_is; said = now.pair.talk.said };
       comes = record { octets = now.pair.back_is; said = now.pair.talk.answered };
       awaits = λ wire row is joined. awaits_release row.pw_id (given_of (network.edges a)) ((network.edges a).ends wire.0 b).local now.pair.messages now.pair.answers
+          (now.bound.near wire row is joined).waits;
+    }
+
+-- ---- no end is declined
+
+undeclined : (pw_id : ℕ) (given : ℕ → Bool) (near : LocalPart) (out back : List Message) → is_waited_for pw_id given near out back ≡ true → near ≢ Idle true
+undeclined pw_id given near out back waits is = clash (ap (λ (local : LocalPart). is_waited_for pw_id given local out back) (sym is) ∙ waits)
+
+pub runs_decline_none : RunsDeclineNone
+runs_decline_none plan events run a b both =
+    let network : NetworkState = network_after plan events in
+    let now : AreBoundNow plan network a b = bound_now plan network a b (run_ordered plan events run) (run_bounds plan events run) both in
+    record {
+      undeclined = λ wire row is joined. undeclined row.pw_id (given_of (network.edges a)) ((network.edges a).ends wire.0 b).local now.pair.messages now.pair.answers
           (now.bound.near wire row is joined).waits;
     }
 

@@ -1,21 +1,21 @@
 -- The table of session states and flights is kept by each thing that one end does.
-use Rattle.std.proofs.Common.{◌≡◌, ◌++◌, ◌&&◌, Bool, true, not, List, [], ◌∷◌, refl, arith}
+use Rattle.std.proofs.Common.{◌≡◌, ◌++◌, ◌&&◌, Bool, true, List, [], ◌∷◌, refl, arith}
 use Rattle.net_values.proofs.BoolLemmas.{clash}
 use Rattle.ldp_grammar.specs.declared.message.Message.{Message}
 use Rattle.session_core.specs.Phase.{Phase, Initialized, OpenSent, OpenRec, Operational}
 use Rattle.session_core.specs.Reasons.{is_fatal, is_keep_alive}
 use Rattle.flight_laws.specs.Coming.{initialization_comes, is_coming, keep_alive_comes}
-use Rattle.flight_laws.specs.Flight.{all_messages, begins_with_keep_alive, has_keep_alives, has_no_initialization, has_some_keep_alives, is_empty, is_initialization, is_one_initialization, is_row, opens_session}
+use Rattle.flight_laws.specs.Flight.{all_messages, begins_with_keep_alive, has_keep_alives, has_plain_messages, has_some_keep_alives, is_empty, is_initialization, is_one_initialization, is_plain, is_row, opens_session}
 
 pub all-append : (test : Message → Bool) (xs ys : List Message) → all_messages test xs ≡ true → all_messages test ys ≡ true → all_messages test (xs ++ ys) ≡ true
 all-append test [] ys one other = other
 all-append test (x ∷ xs) ys one other = grind (arith, all-append test xs ys)
 
--- a KeepAlive is no Initialization
-pub keep_is_plain : (m : Message) → is_keep_alive m ≡ true → not (is_initialization m) ≡ true
+-- a KeepAlive is neither an Initialization nor a fatal Notification
+pub keep_is_plain : (m : Message) → is_keep_alive m ≡ true → is_plain m ≡ true
 keep_is_plain m e = grind arith
 
-pub keeps_are_plain : (ms : List Message) → has_keep_alives ms ≡ true → has_no_initialization ms ≡ true
+pub keeps_are_plain : (ms : List Message) → has_keep_alives ms ≡ true → has_plain_messages ms ≡ true
 keeps_are_plain [] e = refl
 keeps_are_plain (m ∷ ms) e = grind (arith, keep_is_plain m, keeps_are_plain ms)
 
@@ -23,15 +23,15 @@ some_keeps-append : (xs : List Message) (m : Message) → has_some_keep_alives x
 some_keeps-append [] m h k = clash h
 some_keeps-append (x ∷ xs) m h k = grind (arith, all-append is_keep_alive xs (m ∷ []))
 
-begins-append : (xs : List Message) (m : Message) → begins_with_keep_alive xs ≡ true → not (is_initialization m) ≡ true → begins_with_keep_alive (xs ++ m ∷ []) ≡ true
+begins-append : (xs : List Message) (m : Message) → begins_with_keep_alive xs ≡ true → is_plain m ≡ true → begins_with_keep_alive (xs ++ m ∷ []) ≡ true
 begins-append [] m h k = clash h
-begins-append (x ∷ xs) m h k = grind (arith, all-append (λ message. not (is_initialization message)) xs (m ∷ []))
+begins-append (x ∷ xs) m h k = grind (arith, all-append is_plain xs (m ∷ []))
 
 keeps-append : (xs : List Message) (m : Message) → has_keep_alives xs ≡ true → is_keep_alive m ≡ true → has_keep_alives (xs ++ m ∷ []) ≡ true
 keeps-append xs m h k = all-append is_keep_alive xs (m ∷ []) h (grind arith)
 
-plain-append : (xs : List Message) (m : Message) → has_no_initialization xs ≡ true → not (is_initialization m) ≡ true → has_no_initialization (xs ++ m ∷ []) ≡ true
-plain-append xs m h k = all-append (λ message. not (is_initialization message)) xs (m ∷ []) h (grind arith)
+plain-append : (xs : List Message) (m : Message) → has_plain_messages xs ≡ true → is_plain m ≡ true → has_plain_messages (xs ++ m ∷ []) ≡ true
+plain-append xs m h k = all-append is_plain xs (m ∷ []) h (grind arith)
 
 opens-append : (xs : List Message) (m : Message) → opens_session xs ≡ true → is_keep_alive m ≡ true → opens_session (xs ++ m ∷ []) ≡ true
 opens-append [] m h k = clash h
@@ -45,7 +45,7 @@ active_keeps OpenSent out back m k h = clash h
 active_keeps OpenRec out back m k h = grind (arith, some_keeps-append out m)
 active_keeps Operational out back m k h = grind (arith, keeps-append out m)
 
-pub active_says : (p : Phase) (out back : List Message) (m : Message) → not (is_initialization m) ≡ true → is_row Operational p out back ≡ true → is_row Operational p (out ++ m ∷ []) back ≡ true
+pub active_says : (p : Phase) (out back : List Message) (m : Message) → is_plain m ≡ true → is_row Operational p out back ≡ true → is_row Operational p (out ++ m ∷ []) back ≡ true
 active_says Initialized out back m k h = clash h
 active_says OpenSent out back m k h = clash h
 active_says OpenRec out back m k h = grind (arith, begins-append out m)
@@ -57,7 +57,7 @@ passive_keeps OpenSent out back m k h = grind (arith, opens-append back m)
 passive_keeps OpenRec out back m k h = grind (arith, some_keeps-append back m)
 passive_keeps Operational out back m k h = grind (arith, keeps-append back m)
 
-pub passive_says : (a : Phase) (out back : List Message) (m : Message) → not (is_initialization m) ≡ true → is_row a Operational out back ≡ true → is_row a Operational out (back ++ m ∷ []) ≡ true
+pub passive_says : (a : Phase) (out back : List Message) (m : Message) → is_plain m ≡ true → is_row a Operational out back ≡ true → is_row a Operational out (back ++ m ∷ []) ≡ true
 passive_says Initialized out back m k h = clash h
 passive_says OpenSent out back m k h = clash h
 passive_says OpenRec out back m k h = grind (arith, begins-append back m)

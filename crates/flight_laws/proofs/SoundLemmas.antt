@@ -21,7 +21,7 @@ use Rattle.edge_model.specs.Mend.{is_operational, is_up_with}
 use Rattle.edge_model.specs.Session.{clears_ends, happens, happens_with_ends, losing_ends}
 use Rattle.edge_model.specs.State.{EdgeState, Peering, end_at, has_end, is_there, with_end, with_ends_beside, with_next_label, with_kept}
 use Rattle.edge_model.specs.Work.{Work, changes}
-use Rattle.flight_laws.specs.Binding.{is_idle}
+use Rattle.flight_laws.specs.Binding.{is_unasked}
 use Rattle.flight_laws.specs.Sound.{IsSoundEnd, IsSoundHeld, IsSoundPart, TellsSoundly}
 use Rattle.flight_laws.proofs.KeepLemmas.{IsInPhase, KeepsEnds, happens_keeps, happens_phase, phase_after, up_after}
 use Rattle.flight_laws.proofs.WorkLemmas.{happens_spares}
@@ -34,7 +34,7 @@ use Rattle.pw_signalling.specs.Laws.{own_label}
 
 -- ---- ends
 
-idle_part : (local : LocalPart) → is_idle local ≡ true → IsSoundPart local
+idle_part : (local : LocalPart) → is_unasked local ≡ true → IsSoundPart local
 idle_part (Idle declined) idle = tt
 idle_part (Advertised label told) idle = clash idle
 idle_part (Withdrawing label) idle = clash idle
@@ -43,7 +43,7 @@ none_held : (limit : ℕ) (held : Option Binding) → held ≡ None → IsSoundH
 none_held limit None none = tt
 none_held limit (Some binding) none = absurd (cc)
 
-pub idle_sound : (limit : ℕ) (up : Bool) (e : EndState) → is_idle e.local ≡ true → e.remote ≡ None → IsSoundEnd limit up e
+pub idle_sound : (limit : ℕ) (up : Bool) (e : EndState) → is_unasked e.local ≡ true → e.remote ≡ None → IsSoundEnd limit up e
 idle_sound limit true e idle none = (idle_part e.local idle, none_held limit e.remote none)
 idle_sound limit false e idle none = (idle, none)
 
@@ -66,7 +66,7 @@ renewed_sound limit true true e sound = (by_local e.local sound.0, sound.1) wher
   by_local (Advertised label told) sound = sound
   by_local (Withdrawing label) sound = sound
 renewed_sound limit true false e sound = (by_local e.local sound.0, sound.1) where
-  by_local : (local : LocalPart) → is_idle local ≡ true → is_idle (renew_part local) ≡ true
+  by_local : (local : LocalPart) → is_unasked local ≡ true → is_unasked (renew_part local) ≡ true
   by_local (Idle declined) idle = refl
   by_local (Advertised label told) idle = clash idle
   by_local (Withdrawing label) idle = clash idle

@@ -208,7 +208,7 @@ module _ (plan : Plan) (me : EdgeId) (checked : IsChecked plan) (types : HasType
 
 pub advertised_up : (limit : ℕ) (up : Bool) (e : EndState) (label : ℕ) (told : Told) → IsSoundEnd limit up e → e.local ≡ Advertised label told → (up ≡ true) × CanBeMapped label told
 advertised_up limit true e label told sound at = (refl, subst IsSoundPart at sound.0)
-advertised_up limit false e label told sound at = clash (sym (ap Rattle.flight_laws.specs.Binding.is_idle at) ∙ sound.0)
+advertised_up limit false e label told sound at = clash (sym (ap Rattle.flight_laws.specs.Binding.is_unasked at) ∙ sound.0)
 
 below_end : (n : ℕ) → n ≤ numbers_end → n == numbers_end ≡ false → n ≤ 1048575
 below_end n most some = grind (arith, nat_tests)

@@ -4,7 +4,7 @@ use Rattle.ldp_grammar.specs.declared.message.Message.{Message}
 use Rattle.session_core.specs.Phase.{Phase, Initialized, OpenSent, OpenRec, Operational}
 use Rattle.session_core.specs.Reasons.{is_fatal, is_keep_alive}
 use Rattle.flight_laws.specs.Coming.{and_more, is_row_for, is_talk, is_talk_without}
-use Rattle.flight_laws.specs.Flight.{is_initialization}
+use Rattle.flight_laws.specs.Flight.{is_initialization, is_plain}
 use Rattle.flight_laws.proofs.RowLemmas.{active_hears, active_keeps, active_opens, active_rises, active_says, comes_back, comes_out, leaves, no_passive, passive_hears, passive_keeps, passive_opens, passive_rises, passive_says, keep_is_plain}
 
 -- ---- an Initialization comes
@@ -52,7 +52,7 @@ keeps_up false (Some q) out back k is h = passive_says q back out k (keep_is_pla
 
 -- ---- anything but an Initialization is said in a session that is up
 
-pub says_up : (active : Bool) (far : Option Phase) (out back : List Message) (m : Message) → not (is_initialization m) ≡ true → is_talk active Operational far out back ≡ true
+pub says_up : (active : Bool) (far : Option Phase) (out back : List Message) (m : Message) → is_plain m ≡ true → is_talk active Operational far out back ≡ true
     → is_talk active Operational far (and_more far out (m ∷ [])) back ≡ true
 says_up active None out back m plain h = h
 says_up true (Some q) out back m plain h = active_says q out back m plain h

@@ -125,7 +125,7 @@ all_on test test2 P (m ∷ ms) next are all =
 
 waits_on : (edge : EdgeState) (wire peer pw_id : ℕ) (near : LocalPart) (out back : List Message) → HasKept edge → ((label : ℕ) → part_owns near label ≡ true → MayName edge wire peer label)
     → is_waited_for pw_id (given_of edge) near out back ≡ true → is_waited_for pw_id (given_of (counted edge)) near out back ≡ true
-waits_on edge wire peer pw_id (Idle declined) out back has own waits = refl
+waits_on edge wire peer pw_id (Idle declined) out back has own waits = waits
 waits_on edge wire peer pw_id (Advertised label told) out back has own waits = named_given edge wire peer label has (own label (same_number label))
 waits_on edge wire peer pw_id (Withdrawing label) out back has own waits =
     and_from (given_of (counted edge) label) (some_message (is_withdrawal_of pw_id label) out || some_message (is_release_of pw_id label) back)

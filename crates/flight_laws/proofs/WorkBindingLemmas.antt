@@ -14,10 +14,10 @@ use Rattle.pw_signalling.specs.Rows.{renew_part, renewed}
 use Rattle.session_core.specs.declared.peers.Peers.{Peers}
 use Rattle.session_core.specs.Table.{SessionEvent, Outcome, Stay, Goes, Ends, Closed, Ticked, outcome_of}
 use Rattle.edge_model.specs.Put.{put_replies}
-use Rattle.edge_model.specs.Session.{comes_of, ends, happens, happens_with_ends, says, with_session}
+use Rattle.edge_model.specs.Session.{comes_of, happens, happens_with_ends, says, with_session}
 use Rattle.edge_model.specs.State.{EdgeState, Peering, is_there, with_bits, with_renewed, with_wire}
 use Rattle.edge_model.specs.Wire.{turned_wire}
-use Rattle.edge_model.specs.Work.{Work, changes, gives}
+use Rattle.edge_model.specs.Work.{Work, changes}
 use Rattle.edge_model.proofs.FitLemmas.{turned_wire_keeps}
 use Rattle.edge_model.proofs.HeldLemmas.{ended_gone, clears_keep}
 use Rattle.network_model.specs.Absorb.{taken_all}
@@ -111,7 +111,7 @@ event_holds me peer place held event work fine unclosed holds = elim (cases_Bool
 
 renewed_bound : (pw_id : ℕ) (next : ℕ → Bool) (near : LocalPart) (far : Option Binding) (out back : List Message) → IsBoundBy pw_id next near far out back
     → IsBoundBy pw_id next (renew_part near) far out back
-renewed_bound pw_id next (Idle declined) far out back is = binding_renews pw_id next declined false far out back is
+renewed_bound pw_id next (Idle declined) far out back is = binding_renews pw_id next declined far out back is
 renewed_bound pw_id next (Advertised label told) far out back is = is
 renewed_bound pw_id next (Withdrawing label) far out back is = is
 

@@ -21,7 +21,7 @@ use Rattle.edge_model.specs.declared.effect.Effect.{Effect}
 use Rattle.edge_model.specs.declared.effect.Effect.TheVariants as effect
 use Rattle.edge_model.specs.Mend.{is_up_with}
 use Rattle.edge_model.specs.Put.{Spoken, having_spoken, message_octets_of, put_replies, with_spoken}
-use Rattle.edge_model.specs.Session.{clears_ends, comes_of, ends, happens, happens_with_ends, is_same_phase, says, with_session}
+use Rattle.edge_model.specs.Session.{clears_ends, comes_of, happens, happens_with_ends, is_same_phase, says, with_session}
 use Rattle.edge_model.specs.State.{EdgeState, Peering, is_there, with_bits, with_kept, with_peering, with_renewed, with_ticks, with_wire}
 use Rattle.edge_model.specs.Wire.{turned_wire}
 use Rattle.edge_model.specs.Work.{Work, changes, gives, puts}

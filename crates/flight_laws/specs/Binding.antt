@@ -1,5 +1,5 @@
 -- What an end holds of its peer once it has heard the messages on their way, and what the peer advertises.
-use Rattle.std.specs.Prelude.{◌==◌, ℕ, Bool, true, false, List, [], ◌∷◌, Option, Some, None, if◌then◌else◌}
+use Rattle.std.specs.Prelude.{◌==◌, not, ℕ, Bool, true, false, List, [], ◌∷◌, Option, Some, None, if◌then◌else◌}
 use Rattle.pw_tlvs.specs.declared.pw_fec.PwFec.{PwFec}
 use Rattle.pw_tlvs.specs.declared.pw_status.PwStatus.{PwStatus}
 use Rattle.ldp_grammar.specs.declared.message.Message.{Message}
@@ -44,6 +44,11 @@ advertised_by (Withdrawing label) = None
 abbrev pub is_idle : LocalPart → Bool
 is_idle (Idle declined) = true
 is_idle local = false
+
+-- an end that has told nothing, and was not declined
+abbrev pub is_unasked : LocalPart → Bool
+is_unasked (Idle declined) = not declined
+is_unasked local = false
 
 -- an end that waits for the release of its label
 abbrev pub is_withdrawing : LocalPart → Bool

@@ -80,9 +80,10 @@ abbrev pub is_release_of : ℕ → ℕ → Message → Bool
 is_release_of pw_id own (LabelRelease id fec label) = names_label pw_id own fec.pw_id label
 is_release_of pw_id own message = false
 
--- the end's own label was given before; of one that is withdrawn the Label Withdraw or the Label Release is on its way
+-- the end's own label was given before; of one that is withdrawn the Label Withdraw or the Label Release is on its way; and an idle end
+-- was not declined
 abbrev pub is_waited_for : ℕ → (ℕ → Bool) → LocalPart → (out back : List Message) → Bool
-is_waited_for pw_id given (Idle declined) out back = true
+is_waited_for pw_id given (Idle declined) out back = not declined
 is_waited_for pw_id given (Advertised label told) out back = given label
 is_waited_for pw_id given (Withdrawing label) out back = given label && (some_message (is_withdrawal_of pw_id label) out || some_message (is_release_of pw_id label) back)
 

@@ -4,7 +4,7 @@ use Rattle.std.specs.Prelude.{◌&&◌, not, Bool, true, false, List, [], ◌∷
 use Rattle.ldp_grammar.specs.declared.message.Message.{Message}
 use Rattle.ldp_grammar.specs.declared.message.Message.TheVariants.{Initialization}
 use Rattle.session_core.specs.Phase.{Phase, Initialized, OpenSent, OpenRec, Operational}
-use Rattle.session_core.specs.Reasons.{is_keep_alive}
+use Rattle.session_core.specs.Reasons.{is_fatal, is_keep_alive}
 
 -- the message is an Initialization
 abbrev pub is_initialization : Message → Bool
@@ -42,14 +42,18 @@ abbrev pub opens_session : List Message → Bool
 opens_session [] = false
 opens_session (message ∷ messages) = is_initialization message && has_some_keep_alives messages
 
--- no Initialization
-abbrev pub has_no_initialization : List Message → Bool
-has_no_initialization messages = all_messages (λ message. not (is_initialization message)) messages
+-- neither an Initialization nor a fatal Notification
+abbrev pub is_plain : Message → Bool
+is_plain message = not (is_initialization message) && not (is_fatal message)
 
--- a KeepAlive first, and no Initialization
+-- each message is so
+abbrev pub has_plain_messages : List Message → Bool
+has_plain_messages messages = all_messages is_plain messages
+
+-- a KeepAlive first, and then such messages
 abbrev pub begins_with_keep_alive : List Message → Bool
 begins_with_keep_alive [] = false
-begins_with_keep_alive (message ∷ messages) = is_keep_alive message && has_no_initialization messages
+begins_with_keep_alive (message ∷ messages) = is_keep_alive message && has_plain_messages messages
 
 -- ---- the table
 
@@ -61,5 +65,5 @@ is_row OpenSent OpenRec out back = is_empty out && opens_session back
 is_row OpenRec OpenRec out back = has_some_keep_alives out && has_some_keep_alives back
 is_row Operational OpenRec out back = begins_with_keep_alive out && has_keep_alives back
 is_row OpenRec Operational out back = has_keep_alives out && begins_with_keep_alive back
-is_row Operational Operational out back = has_no_initialization out && has_no_initialization back
+is_row Operational Operational out back = has_plain_messages out && has_plain_messages back
 is_row active passive out back = false

@@ -2,10 +2,12 @@
 use Rattle.std.specs.Prelude.{◌≡◌, not, nat_eq, ℕ, true, false, List, [], Some, None}
 use Rattle.std.specs.List.{All}
 use Rattle.net_base.specs.declared.plan.Plan.{Plan}
+use Rattle.net_base.specs.declared.plan.places.EdgeId.{EdgeId}
 use Rattle.net_base.specs.declared.plan.places.ServiceId.{ServiceId}
 use Rattle.net_base.specs.declared.plan.places.WireId.{WireId}
 use Rattle.net_base.specs.declared.plan.wire_plan.WirePlan.{WirePlan}
 use Rattle.net_base.specs.declared.trace.event.Event.{Event}
+use Rattle.net_base.specs.declared.trace.event.Event.TheVariants.{Deliver}
 use Rattle.net_base.specs.plan.Accepted.{IsChecked}
 use Rattle.net_base.specs.plan.Paths.{joins}
 use Rattle.net_base.specs.plan.Places.{wire_row}
@@ -19,6 +21,7 @@ use Rattle.session_core.specs.State.{is_active}
 use Rattle.edge_model.specs.State.{Peering}
 use Rattle.network_model.specs.Run.{run, state_after}
 use Rattle.network_model.specs.State.{NetworkState, empty_network, stands}
+use Rattle.network_model.specs.Step.{step}
 use Rattle.flight_laws.specs.Endings.{TellGoodEnds}
 use Rattle.flight_laws.specs.Binding.{advertised_by, bound_after, is_idle, is_withdrawing}
 use Rattle.flight_laws.specs.Ends.{HasTypes, ends_at}
@@ -86,6 +89,11 @@ pub record IsUp (network : NetworkState) (a b : ℕ) : Type 0 where
 -- two ends between which nothing is held or on its way are both up
 abbrev pub RunsComeUp : Type 0
 RunsComeUp = (plan : Plan) (events : List Event) → IsRun plan events → (a b : ℕ) → IsStillBetween (network_after plan events) a b → IsUp (network_after plan events) a b × IsUp (network_after plan events) b a
+
+-- deliveries end no connection: two ends that stand do so after each one
+abbrev pub DeliveriesEndNone : Type 0
+DeliveriesEndNone = (plan : Plan) (events : List Event) → IsRun plan events → (from to : EdgeId) (count a b : ℕ) → BothStand (network_after plan events) a b
+    → BothStand (step plan (network_after plan events) (Deliver from to count)).state a b
 
 -- ---- pseudowires
 

@@ -1,6 +1,6 @@
 -- What is on its way of labels that are withdrawn: their Label Withdraws, and the Label Releases that answer them (RFC 5036
 -- sections 3.5.10 and 3.5.11).
-use Rattle.std.specs.Prelude.{◌≡◌, ◌⊎◌, ℕ, true, false, List, Some, None}
+use Rattle.std.specs.Prelude.{◌≡◌, ◌≢◌, ◌⊎◌, ℕ, true, false, List, Some, None}
 use Rattle.net_base.specs.declared.plan.Plan.{Plan}
 use Rattle.net_base.specs.declared.plan.places.WireId.{WireId}
 use Rattle.net_base.specs.declared.plan.wire_plan.WirePlan.{WirePlan}
@@ -43,7 +43,14 @@ pub record ReleasesUnadvertised (plan : Plan) (network : NetworkState) (a b : �
   pub comes : AreOnWay plan network b a back
   pub named : AllMessages (NamesUnadvertised (network.edges a)) back
 
+-- no end that an edge has beside a peer was declined
+pub record DeclinesNone (plan : Plan) (network : NetworkState) (a b : ℕ) : Type 0 where
+  pub undeclined : (wire : WireId) (row : WirePlan) → wire_row plan wire ≡ Some row → joins a b row.path ≡ true → ((network.edges a).ends wire.0 b).local ≢ Idle true
+
 -- ---- of each two ends that stand
+
+abbrev pub AllDeclineNone : Plan → NetworkState → Type 0
+AllDeclineNone plan network = (a b : ℕ) → BothStand network a b → DeclinesNone plan network a b
 
 abbrev pub AllAwaitReleases : Plan → NetworkState → Type 0
 AllAwaitReleases plan network = (a b : ℕ) → BothStand network a b → AwaitsReleases plan network a b
@@ -55,6 +62,10 @@ AllReleaseUnadvertised plan network = (a b : ℕ) → BothStand network a b → 
 
 abbrev pub RunsAwaitReleases : Type 0
 RunsAwaitReleases = (plan : Plan) (events : List Event) → IsRun plan events → AllAwaitReleases plan (network_after plan events)
+
+-- no label is ever released that was not withdrawn (RFC 5036 section 3.5.11)
+abbrev pub RunsDeclineNone : Type 0
+RunsDeclineNone = (plan : Plan) (events : List Event) → IsRun plan events → AllDeclineNone plan (network_after plan events)
 
 abbrev pub RunsReleaseUnadvertised : Type 0
 RunsReleaseUnadvertised = (plan : Plan) (events : List Event) → IsRun plan events → AllReleaseUnadvertised plan (network_after plan events)

@@ -18,7 +18,7 @@ use Rattle.pw_messages.specs.Content.{params_of}
 use Rattle.edge_model.specs.EndPlaces.{is_terminal}
 use Rattle.edge_model.specs.Mend.{is_up_with}
 use Rattle.edge_model.specs.State.{EdgeState}
-use Rattle.flight_laws.specs.Binding.{is_idle}
+use Rattle.flight_laws.specs.Binding.{is_unasked}
 use Rattle.flight_laws.specs.Messages.{HaveOctets}
 
 -- a label, and a content whose FEC can be written without its parameters
@@ -56,7 +56,7 @@ IsSoundHeld limit (Some binding) = IsSoundTold limit binding.told
 -- has at most so many points
 abbrev pub IsSoundEnd : ℕ → Bool → EndState → Type 0
 IsSoundEnd limit true e = IsSoundPart e.local × IsSoundHeld limit e.remote
-IsSoundEnd limit false e = (is_idle e.local ≡ true) × (e.remote ≡ None)
+IsSoundEnd limit false e = (is_unasked e.local ≡ true) × (e.remote ≡ None)
 
 -- the most points that an edge takes of a wire: a switching point adds its own one to at most two (RFC 6073 section 7.6)
 abbrev pub limit_of : EdgeId → Option WirePlan → ℕ

@@ -1,7 +1,7 @@
 //! What holds of sessions and pseudowires in every run of the network.
 ghost use Rattle.flight_laws.specs.Across.{RunsTakeMappings, RunsTellAcross};
-ghost use Rattle.flight_laws.specs.Laws.{RunsAgreeAfterFlight, RunsComeUp, RunsEndWell, RunsFollowTable, RunsKeepLabelRule, RunsKeepToldRule, RunsSettle};
-ghost use Rattle.flight_laws.specs.Releases.{RunsAwaitReleases, RunsReleaseUnadvertised};
+ghost use Rattle.flight_laws.specs.Laws.{DeliveriesEndNone, RunsAgreeAfterFlight, RunsComeUp, RunsEndWell, RunsFollowTable, RunsKeepLabelRule, RunsKeepToldRule, RunsSettle};
+ghost use Rattle.flight_laws.specs.Releases.{RunsAwaitReleases, RunsDeclineNone, RunsReleaseUnadvertised};
 
 /// Of two ends that stand one is active, and their session states with what is on its way between them are a row of the table:
 /// the octets that each is still to hear of the other one are those of whole messages (RFC 5036 sections 2.5.3 and 2.5.4).
@@ -21,6 +21,13 @@ pub fn runs_end_well()
 #[tactic(auto, using(crate::proofs::RunLemmas::runs_come_up))]
 pub fn runs_come_up()
     ensures { RunsComeUp }
+{}
+
+/// Two ends of a connection that stand do so after each delivery: no session between them ends until one of its ends hears
+/// nothing for the hold time, restarts, or loses its connection.
+#[tactic(auto, using(crate::proofs::StayLemmas::deliveries_end_none))]
+pub fn deliveries_end_none()
+    ensures { DeliveriesEndNone }
 {}
 
 /// Where both ends of a connection stand, an edge that has heard the messages on their way to it holds of each wire between the
@@ -69,6 +76,13 @@ pub fn runs_await_releases()
 #[tactic(auto, using(crate::proofs::ReleaseLemmas::runs_release_unadvertised))]
 pub fn runs_release_unadvertised()
     ensures { RunsReleaseUnadvertised }
+{}
+
+/// Where both ends of a connection stand, no end of a wire between the two was declined: no edge releases a label that was not
+/// withdrawn (RFC 5036 section 3.5.11).
+#[tactic(auto, using(crate::proofs::ReleaseLemmas::runs_decline_none))]
+pub fn runs_decline_none()
+    ensures { RunsDeclineNone }
 {}
 
 /// After every event a switching point of a wire that advertises to one neighbour tells it exactly what it holds of the other

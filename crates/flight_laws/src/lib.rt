@@ -6,7 +6,7 @@
 mod laws;
 
 pub use laws::{
-    runs_agree_after_flight, runs_await_releases, runs_come_up, runs_end_well, runs_follow_table,
-    runs_keep_label_rule, runs_keep_told_rule, runs_release_unadvertised, runs_settle,
-    runs_take_mappings, runs_tell_across,
+    deliveries_end_none, runs_agree_after_flight, runs_await_releases, runs_come_up,
+    runs_decline_none, runs_end_well, runs_follow_table, runs_keep_label_rule, runs_keep_told_rule,
+    runs_release_unadvertised, runs_settle, runs_take_mappings, runs_tell_across,
 };
