@@ -32,7 +32,8 @@ use Rattle.packet_laws.specs.Carried.{KeepsPacketRule}
 use Rattle.packet_laws.proofs.ArriveLemmas.{IsSized}
 use Rattle.flood_laws.specs.Copy.{CarriesCopy, IsStill, IsStillEdge}
 use Rattle.flood_laws.specs.Due.{serves_here, wires_due}
-use Rattle.flood_laws.proofs.CopyLemmas.{copy_drops}
+use Rattle.flood_laws.proofs.CopyLemmas.{copy_drops, still_placed}
+use Rattle.flood_laws.proofs.JoinedLemmas.{IsSteady, calm_steady}
 use Rattle.flood_laws.proofs.CountLemmas.{due, meets}
 use Rattle.flood_laws.proofs.EntryLemmas.{carried_within}
 use Rattle.flood_laws.proofs.HopLemmas.{twelve_hops}
@@ -61,8 +62,11 @@ module _ (plan : Plan) (calm network : NetworkState) (trace : List Entry) (servi
   abbrev target : CircuitId
   target = site (destination_of frame)
 
+  steady : IsSteady plan calm service
+  steady = calm_steady plan calm service checked calmed (λ k. still_placed (calm.edges k) (network.edges k) (still.edges k) ∙ (ruled.edges k).place)
+
   abbrev copy : CarriesCopy plan calm service frame packet
-  copy = serve.copy plan calm network trace service frame origin number packet checked calmed settled sized ruled rule still copies found own framed
+  copy = serve.copy plan calm network trace service frame origin number packet checked steady settled sized ruled rule still copies found own framed
 
   placed : (network.edges packet.to.0).me ≡ packet.to
   placed = (ruled.edges packet.to.0).place
@@ -89,10 +93,10 @@ module _ (plan : Plan) (calm network : NetworkState) (trace : List Entry) (servi
 
   module _ (ended : is_terminal copy.row packet.to ≡ true) (takes : end_forwards plan (calm.edges packet.to.0) packet.wire ≡ true) where
     bridged : work ≡ forwarded plan taken_all (arrival.Wire packet.wire) service frame port (begin_at network packet.to)
-    bridged = serve.bridged plan calm network trace service frame origin number packet checked calmed settled sized ruled rule still copies found own framed ended takes
+    bridged = serve.bridged plan calm network trace service frame origin number packet checked steady settled sized ruled rule still copies found own framed ended takes
 
     ends : wire_ends_at service packet.to.0 copy.row ≡ true
-    ends = serve.ends plan calm network trace service frame origin number packet checked calmed settled sized ruled rule still copies found own framed ended
+    ends = serve.ends plan calm network trace service frame origin number packet checked steady settled sized ruled rule still copies found own framed ended
 
     -- the port that the bridge knows for the station leads to its site
     leads : (from q : ℕ) → port ≡ Some from → known_port (addresses_of (hearing service frame from (network.edges packet.to.0)) service) (destination frame) ≡ Some q
@@ -117,7 +121,7 @@ module _ (plan : Plan) (calm network : NetworkState) (trace : List Entry) (servi
         (subst (λ (m : EdgeId). IsStillEdge (calm.edges m.0) (network.edges packet.to.0)) back (still.edges packet.to.0)) (site_of plan calm service target on)
         (subst (λ (m : EdgeId). m.0 < length plan.edges) back
         (carried_within plan network trace packet checked
-        (serve.rule_here plan calm network trace service frame origin number packet checked calmed settled sized ruled rule still copies found own framed)))
+        (serve.rule_here plan calm network trace service frame origin number packet checked steady settled sized ruled rule still copies found own framed)))
         (subst (λ (m : EdgeId). has_port plan service m.0 ≡ true) back (port_at plan service packet.to.0 packet.wire.0 copy.row copy.is ends))
         (λ from q at known. subst (λ (m : EdgeId). LeadsToSite plan calm service target m q) back
         (leads from q (ap (λ (m : EdgeId). position (is_wire_port packet.wire) (ports_of plan service m)) back ∙ at) known))
@@ -133,15 +137,15 @@ module _ (plan : Plan) (calm network : NetworkState) (trace : List Entry) (servi
         let at = site_of plan calm service circuit here in
         let law = arrival_law plan calm service circuit at.row packet.wire copy.row packet.to.0
         (start copy.row.path packet.from packet.to).0 checked calmed at.is at.of_service copy.is ends
-        (serve.far plan calm network trace service frame origin number packet checked calmed settled sized ruled rule still copies found own framed ended)
-        (serve.live plan calm network trace service frame origin number packet checked calmed settled sized ruled rule still copies found own framed ended takes) in
+        (serve.far plan calm network trace service frame origin number packet checked steady settled sized ruled rule still copies found own framed ended)
+        (serve.live plan calm network trace service frame origin number packet checked steady settled sized ruled rule still copies found own framed ended takes) in
         let one : cond {A = ℕ} (serves_here plan service (network.edges packet.to.0) circuit && true) 1 0 ≡ cond (nat_eq at.row.edge.0 packet.to.0) 1 0 =
         ap (λ (b : Bool). cond {A = ℕ} (b && true) 1 0)
         (site_serves plan calm service circuit (network.edges packet.to.0) packet.to.0 at (ap (λ (m : EdgeId). m.0) placed) (still.edges packet.to.0)) ∙ alone (nat_eq at.row.edge.0 packet.to.0) in
         omega (
           arith,
-          serve.gone plan calm network trace service frame origin number packet checked calmed settled sized ruled rule still copies found own framed circuit,
-          serve.awaits_here plan calm network trace service frame origin number packet checked calmed settled sized ruled rule still copies found own framed ended circuit,
+          serve.gone plan calm network trace service frame origin number packet checked steady settled sized ruled rule still copies found own framed circuit,
+          serve.awaits_here plan calm network trace service frame origin number packet checked steady settled sized ruled rule still copies found own framed ended circuit,
           law,
           one,
         )
@@ -156,13 +160,13 @@ module _ (plan : Plan) (calm network : NetworkState) (trace : List Entry) (servi
     absorbed : Serves plan calm service frame origin given (absorb packet.to origin packet.hops work base)
     absorbed =
         serves_absorb plan calm service frame origin given packet.to packet.hops work base
-        (serve.rest plan calm network trace service frame origin number packet checked calmed settled sized ruled rule still copies found own framed)
-        (λ sent. serve.sends plan calm network trace service frame origin number packet checked calmed settled sized ruled rule still copies found own framed ended takes sent
-        (serve.flooding plan calm network trace service frame origin number packet checked calmed settled sized ruled rule still copies found own framed ended takes))
-        (λ circuit here. refl) (λ circuit other away. serve.nowhere_else plan calm network trace service frame origin number packet checked calmed settled sized ruled rule still copies found own framed ended takes circuit other away (serve.flooding plan calm network trace service frame origin number packet checked calmed settled sized ruled rule still copies found own framed ended takes))
+        (serve.rest plan calm network trace service frame origin number packet checked steady settled sized ruled rule still copies found own framed)
+        (λ sent. serve.sends plan calm network trace service frame origin number packet checked steady settled sized ruled rule still copies found own framed ended takes sent
+        (serve.flooding plan calm network trace service frame origin number packet checked steady settled sized ruled rule still copies found own framed ended takes))
+        (λ circuit here. refl) (λ circuit other away. serve.nowhere_else plan calm network trace service frame origin number packet checked steady settled sized ruled rule still copies found own framed ended takes circuit other away (serve.flooding plan calm network trace service frame origin number packet checked steady settled sized ruled rule still copies found own framed ended takes))
         (λ other. left_within 12 origin packet.hops packet.to origin work.effects other
         (twelve_hops plan packet.wire copy.row packet.from packet.to packet.hops checked copy.is copy.joined
-        (serve.come plan calm network trace service frame origin number packet checked calmed settled sized ruled rule still copies found own framed ended takes)))
+        (serve.come plan calm network trace service frame origin number packet checked steady settled sized ruled rule still copies found own framed ended takes)))
 
     taken : ServesHere origin
     taken = record {
@@ -179,13 +183,13 @@ module _ (plan : Plan) (calm network : NetworkState) (trace : List Entry) (servi
       | inl takes ↦ taken ended takes
       | inr down ↦
           let dropped = copy_drops plan calm network trace service frame packet checked ruled still
-          (serve.rule_here plan calm network trace service frame origin number packet checked calmed settled sized ruled rule still copies found own framed) copy
-          (serve.ended_rule plan calm network trace service frame origin number packet checked calmed settled sized ruled rule still copies found own framed ended) down in
+          (serve.rule_here plan calm network trace service frame origin number packet checked steady settled sized ruled rule still copies found own framed) copy
+          (serve.ended_rule plan calm network trace service frame origin number packet checked steady settled sized ruled rule still copies found own framed ended) down in
           serves_each plan calm service target frame origin owed (absorb packet.to origin packet.hops work base)
-          (serve.dropping plan calm network trace service frame origin number packet checked calmed settled sized ruled rule still copies found own framed ended dropped.why
+          (serve.dropping plan calm network trace service frame origin number packet checked steady settled sized ruled rule still copies found own framed ended dropped.why
           (ap (λ (w : Work). w.effects) dropped.is
-          ∙ serve.drop_gives plan calm network trace service frame origin number packet checked calmed settled sized ruled rule still copies found own framed dropped.why packet.to) down)
+          ∙ serve.drop_gives plan calm network trace service frame origin number packet checked steady settled sized ruled rule still copies found own framed dropped.why packet.to) down)
     ]
     | inr between ↦ serves_each plan calm service target frame origin owed (absorb packet.to origin packet.hops work base)
-        (serve.switching_serves plan calm network trace service frame origin number packet checked calmed settled sized ruled rule still copies found own framed between)
+        (serve.switching_serves plan calm network trace service frame origin number packet checked steady settled sized ruled rule still copies found own framed between)
   ])

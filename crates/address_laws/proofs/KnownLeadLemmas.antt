@@ -33,6 +33,7 @@ use Rattle.network_model.specs.State.{NetworkState}
 use Rattle.flood_laws.specs.Copy.{IsStillEdge}
 use Rattle.flood_laws.specs.Due.{due_towards}
 use Rattle.flood_laws.proofs.BridgeLemmas.{goes_by, port_serves}
+use Rattle.flood_laws.proofs.CalmReachLemmas.{calm_awaits}
 use Rattle.flood_laws.proofs.CopyLemmas.{still_forwards}
 use Rattle.flood_laws.proofs.DueLemmas.{carries_by, forwards, stitches}
 use Rattle.flood_laws.proofs.LinkLemmas.{IsLink, link_at}
@@ -159,13 +160,25 @@ module _ (plan : Plan) (came : Arrival) (calm : NetworkState) (service : Service
         let (n, is) = far_some (nat_eq edge.me.0 link.near.0) link.far.0 link.near.0 in
         (n, far_link plan wired.row link edge.me.0 ∙ is)
 
+    -- it is one of the two terminal edges
+    side : (n : ℕ) → far_of edge.me.0 wired.row.path ≡ Some n → (record { 0 = n } ≡ link.near) ⊎ (record { 0 = n } ≡ link.far)
+    side n there = by (nat_eq edge.me.0 link.near.0) (sym (far_link plan wired.row link edge.me.0) ∙ there) where
+      by : (b : Bool) → cond b (Some link.far.0) (Some link.near.0) ≡ Some n → (record { 0 = n } ≡ link.near) ⊎ (record { 0 = n } ≡ link.far)
+      by true is =
+          let same : n ≡ link.far.0 = cc (is) in
+          inr (ap (λ (m : ℕ). record { 0 = m }) same)
+      by false is =
+          let same : n ≡ link.near.0 = cc (is) in
+          inl (ap (λ (m : ℕ). record { 0 = m }) same)
+
     awaits_there : (behind : Bool) → behind ≡ true → ((n : ℕ) → far_of edge.me.0 wired.row.path ≡ Some n → ahead_wire plan calm service n wire.0 mesh (Some wired.row) circuit ≡ behind) → due_there ≡ 1
     awaits_there behind is met =
         let (n, there) = far in
         ap (due_towards plan calm service circuit wire.0) there
         ∙ ap (λ (b : Bool). cond {A = ℕ} b 1 0)
-        (ap (λ (r : Option WirePlan). ahead_wire plan calm service n wire.0 (is_mesh_row r) r circuit) wired.is
-        ∙ (ap (λ (m : Bool). ahead_wire plan calm service n wire.0 m (Some wired.row) circuit) wired.class ∙ (met n there ∙ is)))
+        (calm_awaits plan calm service checked calmed circuit wire wired.row link wired.is ours (record { 0 = n }) (side n there)
+        ∙ (ap (λ (r : Option WirePlan). ahead_wire plan calm service n wire.0 (is_mesh_row r) r circuit) wired.is
+        ∙ (ap (λ (m : Bool). ahead_wire plan calm service n wire.0 m (Some wired.row) circuit) wired.class ∙ (met n there ∙ is))))
 
   mesh_serves : (wire : WireId) → IsWired plan.wires service edge.me true wire.0 → behind_wire plan calm service edge.me.0 wire.0 true (wire_row plan wire) circuit ≡ true → Serves (port.Mesh wire)
   mesh_serves wire wired reached =

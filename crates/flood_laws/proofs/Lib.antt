@@ -1,5 +1,6 @@
 pub mod ArrivalLemmas
 pub mod BridgeLemmas
+pub mod CalmReachLemmas
 pub mod CarryLemmas
 pub mod ChainLemmas
 pub mod ChosenLemmas
@@ -11,16 +12,21 @@ mod Examples
 pub mod FarLemmas
 pub mod HomeLemmas
 pub mod HopLemmas
+pub mod JoinedLemmas
 pub mod LawLemmas
 pub mod LinkLemmas
+pub mod MateLemmas
 pub mod MeshLemmas
+pub mod MutualLemmas
 pub mod OfferLemmas
 pub mod OriginLemmas
+mod ReachedExamples
 pub mod RelayLemmas
 pub mod RunLemmas
 pub mod ServeArrivalLemmas
 pub mod ServeLemmas
 pub mod ShareLemmas
+pub mod ShareReachedLemmas
 pub mod SiteLemmas
 pub mod SoFarLemmas
 pub mod StartLemmas

@@ -1,5 +1,5 @@
 -- A calm service has one mesh wire between two core edges, and each of its mesh wires carries frames.
-use Rattle.std.proofs.Common.{◌≡◌, ◌<◌, ◌==◌, ◌&&◌, ◌||◌, ◌∙◌, not, ℕ, Bool, true, false, Some, cond, length, slice_get, nat_eq, refl, ap, sym, subst, zero-add, arith, inl, inr}
+use Rattle.std.proofs.Common.{◌≡◌, ◌<◌, ◌+◌, ◌==◌, ◌&&◌, ◌||◌, ◌∙◌, not, ℕ, Bool, true, false, Option, Some, None, cond, length, slice_get, nat_eq, refl, ap, sym, subst, zero-add, arith, inl, inr}
 use Rattle.std.proofs.lemmas.Bool.{cases_Bool, eq-eqb, eqb-true, or_right}
 use Rattle.std.proofs.lemmas.Bool.Decides.{nat_tests}
 use Rattle.std.proofs.lemmas.Map.Keys.{any_passes_from_place}
@@ -16,7 +16,7 @@ use Rattle.network_model.specs.State.{NetworkState}
 use Rattle.network_model.proofs.CalmLemmas.{below_holds}
 use Rattle.flood_laws.specs.Due.{sum_wires}
 use Rattle.flood_laws.proofs.LinkLemmas.{IsLink, is_between, link_at, one_between, starts_none}
-use Rattle.flood_laws.proofs.SumLemmas.{FoundWire, sum-at, sum-none, sum-same, wire_found}
+use Rattle.flood_laws.proofs.SumLemmas.{FoundWire, none_of_any, sum-at, sum-none, sum-same, wire_found}
 
 -- an edge with a port of the service that starts no spoke is a core edge
 pub core_edge : (plan : Plan) (service : ServiceId) (e : ℕ) → has_port plan service e ≡ true → is_spoke_edge plan service e ≡ false → is_core_edge plan service e ≡ true
@@ -111,17 +111,25 @@ mesh_carries plan calm service k row checked calmed is mesh =
         let row_is : wire.row ≡ row = cc (rows) in
         ap (λ w. carries plan calm k w) (sym row_is) ∙ (ap (λ n. carries plan calm n wire.row) (sym place) ∙ wire.live)
 
--- one where the wire is a mesh wire between the two edges
-abbrev pub by_mesh : ServiceId → ℕ → ℕ → ℕ → WirePlan → ℕ
-by_mesh service a b k row = cond (is_between service a b row) 1 0
+-- some mesh wire between the two edges carries frames
+abbrev pub some_mesh : Plan → NetworkState → ServiceId → ℕ → Option ℕ → Bool
+some_mesh plan calm service a None = false
+some_mesh plan calm service a (Some b) = any_wire (meshes plan calm service a b) 0 plan.wires
 
--- there is one such wire between two core edges
-pub mesh_sum : (plan : Plan) (calm : NetworkState) (service : ServiceId) (a b : ℕ) → IsChecked plan → is_calm plan calm service ≡ true
-    → a < length plan.edges → b < length plan.edges → is_core_edge plan service a ≡ true → is_core_edge plan service b ≡ true
-    → sum_wires (by_mesh service a b) 0 plan.wires ≡ cond (nat_eq a b) 0 1
-mesh_sum plan calm service a b checked calmed within within_too core core_too = elim (cases_Bool (nat_eq a b)) [
-  | inl same ↦ rw same (sum-none (by_mesh service a b) plan.wires (λ k row is. ap (λ (t : Bool). cond {A = ℕ} t 1 0) (none k row is (eqb-true a b same))))
-  | inr apart ↦ rw apart (one (mesh_wire plan calm service a b calmed within within_too core core_too apart))
+-- one where the wire is such a one
+abbrev pub by_mesh : Plan → NetworkState → ServiceId → ℕ → Option ℕ → ℕ → WirePlan → ℕ
+by_mesh plan calm service a None k row = 0
+by_mesh plan calm service a (Some b) k row = cond (meshes plan calm service a b k row) 1 0
+
+-- no wire leads from an edge to itself
+pub mesh_none : (plan : Plan) (calm : NetworkState) (service : ServiceId) (a b : ℕ) → IsChecked plan → nat_eq a b ≡ true → any_wire (meshes plan calm service a b) 0 plan.wires ≡ false
+mesh_none plan calm service a b checked equal = elim (cases_Bool (any_wire (meshes plan calm service a b) 0 plan.wires)) [
+  | inl some ↦
+      (let wire = wire_found (meshes plan calm service a b) 0 plan.wires some in
+      let between : is_between service a b wire.row ≡ true = first_holds (is_between service a b wire.row) (carries plan calm (0 + wire.k) wire.row) wire.passes in
+      let wrong : true ≡ false = sym between ∙ none wire.k wire.row wire.is (eqb-true a b equal) in
+      absurd (cc (wrong)))
+  | inr away ↦ away
 ]
   where
     twice : (mesh : Bool) (a e f : ℕ) → nat_eq e f ≡ false → mesh && ((nat_eq a e && nat_eq a f) || (nat_eq a e && nat_eq a f)) ≡ false
@@ -132,16 +140,37 @@ mesh_sum plan calm service a b checked calmed within within_too core core_too = 
         let link = link_at plan k row checked is in
         subst (λ n. is_between service a n row ≡ false) same (rw (link.path, link.last a) (twice (is_mesh_of service row) a link.near.0 link.far.0 link.apart))
 
-    one : MeshWire plan calm service a b → sum_wires (by_mesh service a b) 0 plan.wires ≡ 1
+-- of such wires there is one at most
+pub mesh_sum : (plan : Plan) (calm : NetworkState) (service : ServiceId) (a : ℕ) (other : Option ℕ) → IsChecked plan
+    → sum_wires (by_mesh plan calm service a other) 0 plan.wires ≡ cond (some_mesh plan calm service a other) 1 0
+mesh_sum plan calm service a None checked = sum-none (by_mesh plan calm service a None) plan.wires (λ k row is. refl)
+mesh_sum plan calm service a (Some b) checked = elim (cases_Bool (any_wire (meshes plan calm service a b) 0 plan.wires)) [
+  | inl some ↦ one (wire_found (meshes plan calm service a b) 0 plan.wires some) ∙ ap (λ (t : Bool). cond {A = ℕ} t 1 0) (sym some)
+  | inr away ↦
+      sum-none (by_mesh plan calm service a (Some b)) plan.wires (λ k row is. ap (λ (t : Bool). cond {A = ℕ} t 1 0) (none_of_any (meshes plan calm service a b) plan.wires k row away is))
+      ∙ ap (λ (t : Bool). cond {A = ℕ} t 1 0) (sym away)
+]
+  where
+    one : FoundWire (meshes plan calm service a b) 0 plan.wires → sum_wires (by_mesh plan calm service a (Some b)) 0 plan.wires ≡ 1
     one wire =
-        sum-same (by_mesh service a b) (λ k row. cond (nat_eq k wire.k) (by_mesh service a b k row) 0) plan.wires (λ k row is. only k row is (is_between service a b row) refl)
-        ∙ (sum-at (by_mesh service a b) wire.k wire.row plan.wires wire.is ∙ ap (λ (t : Bool). cond {A = ℕ} t 1 0) wire.between)
+        sum-same (by_mesh plan calm service a (Some b)) (λ k row. cond (nat_eq k wire.k) (by_mesh plan calm service a (Some b) k row) 0) plan.wires
+        (λ k row is. only k row is (meshes plan calm service a b k row) refl)
+        ∙ (sum-at (by_mesh plan calm service a (Some b)) wire.k wire.row plan.wires wire.is ∙ ap (λ (t : Bool). cond {A = ℕ} t 1 0) passes)
       where
+        passes : meshes plan calm service a b wire.k wire.row ≡ true
+        passes = subst (λ n. meshes plan calm service a b n wire.row ≡ true) (zero-add wire.k) wire.passes
+
+        between : is_between service a b wire.row ≡ true
+        between = first_holds (is_between service a b wire.row) (carries plan calm wire.k wire.row) passes
+
         empty : (t : Bool) → 0 ≡ cond {A = ℕ} t 0 0
         empty true = refl
         empty false = refl
 
-        only : (k : ℕ) (row : WirePlan) → slice_get plan.wires k ≡ Some row → (t : Bool) → is_between service a b row ≡ t
-            → cond {A = ℕ} (is_between service a b row) 1 0 ≡ cond (nat_eq k wire.k) (cond (is_between service a b row) 1 0) 0
-        only k row is true there = rw (one_between plan service k wire.k a b row wire.row checked is there wire.is wire.between) refl
-        only k row is false there = rw there (empty (nat_eq k wire.k))
+        only : (k : ℕ) (row : WirePlan) → slice_get plan.wires k ≡ Some row → (t : Bool) → meshes plan calm service a b k row ≡ t
+            → cond {A = ℕ} (meshes plan calm service a b k row) 1 0 ≡ cond (nat_eq k wire.k) (cond (meshes plan calm service a b k row) 1 0) 0
+        only k row is true there =
+            let equal : nat_eq k wire.k ≡ true = one_between plan service k wire.k a b row wire.row checked is (first_holds (is_between service a b row) (carries plan calm k row) there) wire.is between in
+            sym (ap (λ (t : Bool). cond {A = ℕ} t (cond (meshes plan calm service a b k row) 1 0) 0) equal)
+        only k row is false there = ap (λ (t : Bool). cond {A = ℕ} t 1 0) there
+            ∙ (empty (nat_eq k wire.k) ∙ ap (λ (t : Bool). cond {A = ℕ} (nat_eq k wire.k) (cond {A = ℕ} t 1 0) 0) (sym there))

@@ -3,7 +3,7 @@ use Rattle.std.proofs.Common.{◌-◌, ◌||◌, ◌≡◌, ◌≤◌, ◌+◌, 
 use Rattle.std.proofs.lemmas.Bool.{cases_Bool, eq-eqb, eqb-true, and_from, or_parts}
 use Rattle.std.specs.List.{AllByRecursion, find, list_any}
 use Rattle.std.specs.Str.{bytes_eq}
-use Rattle.net_values.proofs.BoolLemmas.{first_holds, second_fails, first_fails, second_fails_of_both}
+use Rattle.net_values.proofs.BoolLemmas.{second_fails, first_fails, second_fails_of_both}
 use Rattle.net_base.specs.declared.plan.Plan.{Plan}
 use Rattle.net_base.specs.declared.plan.wire_plan.WirePlan.{WirePlan}
 use Rattle.net_base.specs.declared.plan.places.CircuitId.{CircuitId}
@@ -45,7 +45,7 @@ use Rattle.edge_model.specs.Work.{Work, gives}
 use Rattle.edge_model.proofs.PacketLemmas.{mesh_port}
 use Rattle.network_model.specs.declared.packet.Packet.{Packet}
 use Rattle.network_model.specs.Absorb.{absorb, all_entries_of, begin_at, taken_all}
-use Rattle.network_model.specs.Calm.{carries, has_live_spokes, is_calm, is_full, is_quiet}
+use Rattle.network_model.specs.Calm.{carries, is_quiet}
 use Rattle.network_model.specs.OnceEach.{LeftWithin, times_left}
 use Rattle.network_model.specs.Packet.{arriving, packet_at, packet_work}
 use Rattle.network_model.specs.Reach.{far_of, is_site}
@@ -70,12 +70,13 @@ use Rattle.flood_laws.proofs.LinkLemmas.{IsLink, last_ends, link_at}
 use Rattle.flood_laws.proofs.PassingLemmas.{IsNotPassed, IsPassedOn, Passed, passed}
 use Rattle.flood_laws.proofs.RelayLemmas.{relay_awaits, relay_copy, relay_passed}
 use Rattle.flood_laws.proofs.StitchLemmas.{relay_bound}
-use Rattle.flood_laws.proofs.WholeLemmas.{wire_whole}
+use Rattle.flood_laws.proofs.HomeLemmas.{HasLoneSpokes, lone_placed}
+use Rattle.flood_laws.proofs.JoinedLemmas.{IsSteady}
 use Rattle.flood_laws.proofs.WireEdgeLemmas.{far_apart, far_of_far, far_of_near}
 use Rattle.flood_laws.proofs.CountLemmas.{awaited, due, meets, sent_awaits}
 use Rattle.flood_laws.proofs.EntryLemmas.{carried_within, group_unknown, unlearned_unknown}
 use Rattle.flood_laws.proofs.HopLemmas.{hop_on, later_stage, sent_far, twelve_hops}
-use Rattle.flood_laws.proofs.LawLemmas.{arrival_law, down_law}
+use Rattle.flood_laws.proofs.LawLemmas.{arrival_at, down_law}
 use Rattle.flood_laws.proofs.OriginLemmas.{CopyGoes, copy_goes, has_number}
 use Rattle.flood_laws.proofs.ServeLemmas.{Floods, FloodsBy, FloodsNot, IsNearCopy, Serves, copies_near, floods, serves_absorb}
 use Rattle.flood_laws.proofs.SiteLemmas.{left_within, none_elsewhere, site_of, site_serves}
@@ -93,7 +94,7 @@ found_not test number (p ∷ ps) packet none found = by (nat_eq p.number number)
 
 -- in a state of a window, where a copy of the frame is found by its number
 module _ (plan : Plan) (calm network : NetworkState) (trace : List Entry) (service : ServiceId) (frame : List ℕ) (origin number : ℕ) (packet : Packet)
-    (checked : IsChecked plan) (calmed : is_calm plan calm service ≡ true)
+    (checked : IsChecked plan) (steady : IsSteady plan calm service)
     (settled : (a b : ℕ) → are_joined_by plan service a b ≡ true → AreSettled plan calm a b) (sized : IsSized (mtu_of plan service) frame)
     (ruled : IsRuledNetwork plan network) (rule : KeepsPacketRule plan network trace) (still : IsStill calm network)
     (copies : AllByRecursion (IsNearCopy plan calm service frame) (of_origin origin network.under_way))
@@ -135,8 +136,14 @@ module _ (plan : Plan) (calm network : NetworkState) (trace : List Entry) (servi
     pub far : far_of one.0 copy.row.path ≡ Some other.0
     pub whole : end_forwards plan (calm.edges one.0) packet.wire ≡ true → end_forwards plan (calm.edges other.0) packet.wire ≡ true → carries plan calm packet.wire.0 copy.row ≡ true
 
-  from_near : end_forwards plan (calm.edges link.near.0) packet.wire ≡ true → carries plan calm packet.wire.0 copy.row ≡ true
-  from_near up = wire_whole plan calm service packet.wire copy.row link checked calmed calm_placed copy.is copy.of_service up
+  from_both : end_forwards plan (calm.edges link.near.0) packet.wire ≡ true → end_forwards plan (calm.edges link.far.0) packet.wire ≡ true → carries plan calm packet.wire.0 copy.row ≡ true
+  from_both up also = steady.whole packet.wire copy.row link copy.is copy.of_service up also
+
+  up_at : (e f : EdgeId) → e ≡ f → end_forwards plan (calm.edges e.0) packet.wire ≡ true → end_forwards plan (calm.edges f.0) packet.wire ≡ true
+  up_at e f same up = ap (λ (x : EdgeId). end_forwards plan (calm.edges x.0) packet.wire) (sym same) ∙ up
+
+  lone : HasLoneSpokes plan calm service
+  lone = lone_placed plan calm service checked calm_placed
 
   ends_near : wire_ends_at service link.near.0 copy.row ≡ true
   ends_near = rw (copy.of_service, link.path, eq-eqb link.near.0 link.near.0 refl) refl
@@ -148,14 +155,14 @@ module _ (plan : Plan) (calm network : NetworkState) (trace : List Entry) (servi
   to_far one other far near = record {
     ends = ap (λ (e : EdgeId). wire_ends_at service e.0 copy.row) far ∙ ends_far;
     far = ap (λ (e : EdgeId). far_of e.0 copy.row.path) far ∙ (far_of_far plan copy.row link ∙ ap (λ (e : EdgeId). Some e.0) (sym near));
-    whole = λ there here. from_near (ap (λ (e : EdgeId). end_forwards plan (calm.edges e.0) packet.wire) (sym near) ∙ here);
+    whole = λ there here. from_both (up_at other link.near near here) (up_at one link.far far there);
   }
 
   to_near : (one other : EdgeId) → one ≡ link.near → other ≡ link.far → HasEnds one other
   to_near one other near far = record {
     ends = ap (λ (e : EdgeId). wire_ends_at service e.0 copy.row) near ∙ ends_near;
     far = ap (λ (e : EdgeId). far_of e.0 copy.row.path) near ∙ (far_of_near plan copy.row link ∙ ap (λ (e : EdgeId). Some e.0) (sym far));
-    whole = λ there here. from_near (ap (λ (e : EdgeId). end_forwards plan (calm.edges e.0) packet.wire) (sym near) ∙ there);
+    whole = λ there here. from_both (up_at one link.near near there) (up_at other link.far far here);
   }
 
   last_far : (d : EdgeId) → last_or d copy.row.path ≡ link.far
@@ -188,7 +195,7 @@ module _ (plan : Plan) (calm network : NetworkState) (trace : List Entry) (servi
   placed = (ruled.edges packet.to.0).place
 
   quiet : is_quiet plan calm service ≡ true
-  quiet = first_holds (is_quiet plan calm service) (is_full plan calm service) (first_holds (is_quiet plan calm service && is_full plan calm service) (has_live_spokes plan calm service) calmed)
+  quiet = steady.quiet
 
   -- ---- it goes
 
@@ -246,7 +253,7 @@ module _ (plan : Plan) (calm network : NetworkState) (trace : List Entry) (servi
         (λ sent. subst (λ (es : List Effect). AllByRecursion (IsNearCopy plan calm service frame) (packets_of packet.to origin packet.hops sent es)) (sym is) tt)
         (λ circuit site.
         let none : cond {A = ℕ} (awaits plan calm service circuit packet.to packet.wire) 1 0 ≡ 0 =
-        ap (λ (b : Bool). cond {A = ℕ} b 1 0) (down_law plan calm service circuit packet.wire copy.row packet.to.0 end_from.0 checked calmed copy.is ends far down copy.sends) in
+        ap (λ (b : Bool). cond {A = ℕ} b 1 0) (down_law plan calm service circuit packet.wire copy.row packet.to.0 end_from.0 checked copy.is ends far down copy.sends) in
         omega (arith, gone circuit, awaits_here circuit, none, ap (meets plan calm service circuit packet.to) is))
         (λ circuit other away. ap (λ (es : List Effect). times_left origin circuit (all_entries_of packet.to origin packet.hops es other)) is)
         (λ other. subst (λ (es : List Effect). LeftWithin 12 origin (all_entries_of packet.to origin packet.hops es other)) (sym is) tt)
@@ -298,7 +305,7 @@ module _ (plan : Plan) (calm network : NetworkState) (trace : List Entry) (servi
           → due plan calm service circuit origin base + meets plan calm service circuit packet.to work.effects ≡ due plan calm service circuit origin network
       balanced unlearned circuit site =
           let at = site_of plan calm service circuit site in
-          let law = arrival_law plan calm service circuit at.row packet.wire copy.row packet.to.0 end_from.0 checked calmed at.is at.of_service copy.is ends far live in
+          let law = arrival_at plan calm service circuit at.row packet.wire copy.row packet.to.0 end_from.0 checked lone at.is at.of_service copy.is ends far live in
           let served : cond {A = ℕ} (serves_here plan service (network.edges packet.to.0) circuit) 1 0 ≡ cond (nat_eq at.row.edge.0 packet.to.0) 1 0 =
           ap (λ (b : Bool). cond {A = ℕ} b 1 0) (site_serves plan calm service circuit (network.edges packet.to.0) packet.to.0 at (ap (λ (m : EdgeId). m.0) placed) (still.edges packet.to.0)) in
           omega (arith, gone circuit, awaits_here circuit, met unlearned circuit, law, served)
@@ -427,7 +434,7 @@ module _ (plan : Plan) (calm network : NetworkState) (trace : List Entry) (servi
     nothing (inl none) circuit = advertises none
     nothing (inr none) circuit = heads circuit ∙ elim (cases_Bool (end_forwards plan (calm.edges end_to.0) packet.wire)) [
       | inl up ↦ holds (has_ends.whole up copy.sends) none
-      | inr down ↦ down_law plan calm service circuit packet.wire copy.row end_to.0 end_from.0 checked calmed copy.is has_ends.ends has_ends.far down copy.sends
+      | inr down ↦ down_law plan calm service circuit packet.wire copy.row end_to.0 end_from.0 checked copy.is has_ends.ends has_ends.far down copy.sends
     ]
 
     passing : Passed plan network trace packet checked ruled rule_here → ServesHere origin

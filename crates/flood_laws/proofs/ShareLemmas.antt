@@ -1,85 +1,87 @@
 -- At each moment of a window each other site was served, or is ahead of one copy under way.
-use Rattle.std.proofs.Common.{◌≡◌, ◌+◌, ◌++◌, ◌&&◌, ◌∙◌, ℕ, zero, suc, Bool, true, false, List, [], ◌∷◌, Option, Some, None, cond, nat_eq, not, option_map, refl, ap, sym, subst, inl, inr, arith}
+use Rattle.std.proofs.Common.{◌≡◌, ◌++◌, ◌&&◌, ◌∙◌, ◌⊎◌, ℕ, Bool, true, false, List, [], ◌∷◌, Option, Some, None, cond, nat_eq, not, option_map, refl, ap, sym, subst, inl, inr, arith}
 use Rattle.std.proofs.lemmas.Bool.{cases_Bool, eq-eqb, and_from}
 use Rattle.std.specs.List.{AllByRecursion}
-use Rattle.net_values.proofs.BoolLemmas.{clash_at}
 use Rattle.net_base.specs.declared.plan.Plan.{Plan}
 use Rattle.net_base.specs.declared.plan.circuit_plan.CircuitPlan.{CircuitPlan}
 use Rattle.net_base.specs.declared.plan.places.CircuitId.{CircuitId}
 use Rattle.net_base.specs.declared.plan.places.EdgeId.{EdgeId}
 use Rattle.net_base.specs.declared.plan.places.ServiceId.{ServiceId}
-use Rattle.net_base.specs.declared.plan.places.WireId.{WireId}
-use Rattle.net_base.specs.declared.trace.entry.Entry.{Entry}
 use Rattle.net_base.specs.declared.trace.event.Event.{Event}
 use Rattle.net_base.specs.declared.trace.event.Event.TheVariants.{Frame}
+use Rattle.net_base.specs.declared.plan.wire_plan.WirePlan.{WirePlan}
+use Rattle.net_base.specs.plan.Accepted.{IsChecked}
+use Rattle.net_base.specs.plan.Paths.{follows}
 use Rattle.net_base.specs.plan.Places.{circuit_row, is_mesh_wire, wire_row}
 use Rattle.hvpls_spokes.specs.declared.port.Port.TheVariants as port
 use Rattle.network_model.specs.declared.packet.Packet.{Packet}
-use Rattle.network_model.specs.Absorb.{Stepped}
+use Rattle.network_model.specs.Calm.{is_calm}
 use Rattle.network_model.specs.Frame.{next_origin}
+use Rattle.network_model.specs.Goal.{first_or, goal, last_or}
 use Rattle.network_model.specs.OnceEach.{times_left}
 use Rattle.network_model.specs.Reach.{ahead, ahead_wire, is_circuit_on, is_row_of, is_site}
-use Rattle.network_model.specs.Run.{entries_along, run, state_after}
-use Rattle.network_model.specs.State.{NetworkState, empty_network}
-use Rattle.network_model.specs.Step.{step}
+use Rattle.network_model.specs.Run.{run}
+use Rattle.network_model.specs.State.{NetworkState}
 use Rattle.network_model.specs.Window.{Window}
-use Rattle.network_model.proofs.AbsorbLemmas.{of_origin, times_left-append}
-use Rattle.network_model.proofs.OtherLemmas.{IsApart, along}
-use Rattle.network_model.proofs.RunLemmas.{after-append, along-append}
+use Rattle.network_model.proofs.AbsorbLemmas.{of_origin}
 use Rattle.flight_laws.specs.Laws.{IsRun, network_after}
-use Rattle.flood_laws.specs.Copy.{copy_awaits, heading}
-use Rattle.flood_laws.specs.Due.{awaits}
+use Rattle.flood_laws.specs.Copy.{CarriesCopy, copy_awaits, heading, heading_on}
 use Rattle.flood_laws.specs.Laws.{RunsShareSites}
-use Rattle.flood_laws.specs.Shares.{CopiesHavePassed, IsLeftOut, IsSharedOut, SharesSites, arrival_port, times_ahead}
-use Rattle.flood_laws.proofs.CountLemmas.{awaited}
-use Rattle.flood_laws.proofs.ServeLemmas.{IsNearCopy, Serves}
-use Rattle.flood_laws.proofs.SoFarLemmas.{early, served_so_far}
-use Rattle.flood_laws.proofs.StartLemmas.{owed_to}
+use Rattle.flood_laws.specs.ReachedEach.{QuietWindow}
+use Rattle.flood_laws.specs.Reached.{is_reached}
+use Rattle.flood_laws.specs.Shares.{IsLeftOut, IsSharedOut, SharesSites, arrival_port, times_ahead}
+use Rattle.flood_laws.proofs.CalmReachLemmas.{all_reached, calm_awaits}
+use Rattle.flood_laws.proofs.LinkLemmas.{IsLink, last_ends, link_at}
+use Rattle.flood_laws.proofs.RunLemmas.{quiet_window}
+use Rattle.flood_laws.proofs.ServeLemmas.{IsNearCopy}
+use Rattle.flood_laws.specs.SharesReached.{SharesReached, times_awaited}
+use Rattle.flood_laws.proofs.ShareReachedLemmas.{copies_now, shares_reached}
 
 -- ---- what is due is what is ahead
 
-ahead_awaited : (plan : Plan) (calm : NetworkState) (service : ServiceId) (circuit : CircuitId) (to : EdgeId) (wire : WireId) → awaits plan calm service circuit to wire
-    ≡ ahead plan calm service to.0 (arrival_port plan wire) circuit
-ahead_awaited plan calm service circuit to wire = by (is_mesh_wire plan wire) where
-  by : (mesh : Bool) → ahead_wire plan calm service to.0 wire.0 mesh (wire_row plan wire) circuit ≡ ahead plan calm service to.0 (cond mesh (port.Mesh wire) (port.Spoke wire)) circuit
-  by true = refl
-  by false = refl
+-- a copy travels to a terminal edge of its wire
+goes_to : (plan : Plan) (row : WirePlan) (link : IsLink plan row) (from to : EdgeId) → (goal row.path from to ≡ link.near) ⊎ (goal row.path from to ≡ link.far)
+goes_to plan row link from to = by (follows row.path from.0 to.0) refl where
+  same : (a b : EdgeId) → Some a ≡ Some b → a ≡ b
+  same a b e = cc
 
-ahead_due : (plan : Plan) (calm : NetworkState) (service : ServiceId) (origin : ℕ) (circuit : CircuitId) (packets : List Packet)
-    → awaited plan calm service circuit (of_origin origin packets) ≡ times_ahead plan calm service origin circuit packets
-ahead_due plan calm service origin circuit [] = refl
-ahead_due plan calm service origin circuit (p ∷ ps) =
-    by (nat_eq p.origin origin) (copy_awaits plan calm service circuit p) (ahead plan calm service (heading plan p).0 (arrival_port plan p.wire) circuit)
-    (ahead_awaited plan calm service circuit (heading plan p) p.wire) refl (ahead_due plan calm service origin circuit ps)
+  at_far : follows row.path from.0 to.0 ≡ true → goal row.path from to ≡ link.far
+  at_far on =
+      ap (λ (b : Bool). cond b (last_or to row.path) (first_or to row.path)) on
+      ∙ (ap (last_or to) link.path ∙ same (last_or to (link.near ∷ link.rest)) link.far (sym (last_ends to link.near link.rest) ∙ link.ends))
+
+  by : (b : Bool) → follows row.path from.0 to.0 ≡ b → (goal row.path from to ≡ link.near) ⊎ (goal row.path from to ≡ link.far)
+  by true on = inr (at_far on)
+  by false back = inl (ap (λ (b : Bool). cond b (last_or to row.path) (first_or to row.path)) back ∙ ap (first_or to) link.path)
+
+ahead_awaited : (plan : Plan) (calm : NetworkState) (service : ServiceId) (circuit : CircuitId) (frame : List ℕ) (p : Packet) → IsChecked plan → is_calm plan calm service ≡ true
+    → CarriesCopy plan calm service frame p → copy_awaits plan calm service circuit p ≡ ahead plan calm service (heading plan p).0 (arrival_port plan p.wire) circuit
+ahead_awaited plan calm service circuit frame p checked calmed copy =
+    calm_awaits plan calm service checked calmed circuit p.wire copy.row link copy.is copy.of_service (heading plan p)
+    (subst (λ (o : Option WirePlan). (heading_on o p.from p.to ≡ link.near) ⊎ (heading_on o p.from p.to ≡ link.far)) (sym copy.is) (goes_to plan copy.row link p.from p.to))
+    ∙ by (is_mesh_wire plan p.wire)
   where
-    by : (own waits before : Bool) → waits ≡ before → copy_awaits plan calm service circuit p ≡ waits → awaited plan calm service circuit (of_origin origin ps)
-        ≡ times_ahead plan calm service origin circuit ps
-        → awaited plan calm service circuit (cond own (p ∷ of_origin origin ps) (of_origin origin ps)) ≡ cond (own && before) 1 0 + times_ahead plan calm service origin circuit ps
-    by true waits before same is rest = omega (arith, ap (λ (b : Bool). cond {A = ℕ} b 1 0) (is ∙ same), rest)
-    by false waits before same is rest = omega (arith, rest)
+    link : IsLink plan copy.row
+    link = link_at plan p.wire.0 copy.row checked copy.is
 
--- ---- how far the copies have come
+    by : (mesh : Bool) → ahead_wire plan calm service (heading plan p).0 p.wire.0 mesh (wire_row plan p.wire) circuit
+        ≡ ahead plan calm service (heading plan p).0 (cond mesh (port.Mesh p.wire) (port.Spoke p.wire)) circuit
+    by true = refl
+    by false = refl
 
-copies_passed : (plan : Plan) (calm : NetworkState) (service : ServiceId) (frame : List ℕ) (origin : ℕ) (packets : List Packet)
-    → AllByRecursion (IsNearCopy plan calm service frame) (of_origin origin packets) → CopiesHavePassed plan origin packets
-copies_passed plan calm service frame origin [] all = tt
-copies_passed plan calm service frame origin (p ∷ ps) all = elim (cases_Bool (nat_eq p.origin origin)) [
+ahead_due : (plan : Plan) (calm : NetworkState) (service : ServiceId) (frame : List ℕ) (origin : ℕ) (circuit : CircuitId) (packets : List Packet) → IsChecked plan → is_calm plan calm service ≡ true
+    → AllByRecursion (IsNearCopy plan calm service frame) (of_origin origin packets)
+    → times_awaited plan calm service origin circuit packets ≡ times_ahead plan calm service origin circuit packets
+ahead_due plan calm service frame origin circuit [] checked calmed all = refl
+ahead_due plan calm service frame origin circuit (p ∷ ps) checked calmed all = elim (cases_Bool (nat_eq p.origin origin)) [
   | inl own ↦
       (let each : AllByRecursion (IsNearCopy plan calm service frame) (p ∷ of_origin origin ps) = rw own at all in
-      (λ is. each.0.1, copies_passed plan calm service frame origin ps each.1))
+      let here = ahead_awaited plan calm service circuit frame p checked calmed each.0.0 in
+      rw own (omega (arith, ap (λ (b : Bool). cond {A = ℕ} b 1 0) here, ahead_due plan calm service frame origin circuit ps checked calmed each.1)))
   | inr other ↦
       (let rest : AllByRecursion (IsNearCopy plan calm service frame) (of_origin origin ps) = rw other at all in
-      (λ is. clash_at (nat_eq p.origin origin) (eq-eqb p.origin origin is) other, copies_passed plan calm service frame origin ps rest))
+      rw other (omega (arith, ahead_due plan calm service frame origin circuit ps checked calmed rest)))
 ]
-
--- ---- one of two numbers
-
-shared_out : (left before : ℕ) → left + before ≡ 1 → IsSharedOut left before
-shared_out zero before sum = inr (refl, omega (arith, sum))
-shared_out (suc left) before sum = inl (omega (arith, sum), omega (arith, sum))
-
-left_out : (left before : ℕ) → left + before ≡ 0 → IsLeftOut left before
-left_out left before sum = (omega (arith, sum), omega (arith, sum))
 
 -- ---- a moment of a window
 
@@ -91,43 +93,25 @@ module _ (plan : Plan) (events : List Event) (is_run : IsRun plan events) (befor
   abbrev origin : ℕ
   origin = next_origin calm
 
-  abbrev entry : Stepped
-  entry = step plan calm (Frame at octets)
-
-  abbrev now : NetworkState
-  now = state_after plan entry.state during
-
-  abbrev told : List Entry
-  told = entry.entries ++ entries_along plan entry.state during
-
   abbrev so_far : List Event
   so_far = before ++ Frame at octets ∷ during
 
-  served : Serves plan calm service window.frame origin (owed_to at) (record { state = now; entries = told })
-  served = served_so_far plan events is_run before at octets during rest after service split window
+  quiet : QuietWindow plan before at octets (during ++ rest) service
+  quiet = quiet_window plan before at octets (during ++ rest) service window
 
-  nothing_before : (circuit : CircuitId) → IsApart origin circuit (empty_network plan) (along plan (empty_network plan) before)
-  nothing_before circuit = early plan events is_run before at octets during rest after service split window circuit
+  shared : SharesReached plan before at service (network_after plan so_far) (run plan so_far).entries
+  shared = shares_reached plan events is_run before at octets during rest after service split quiet
 
-  state_is : network_after plan so_far ≡ now
-  state_is = after-append plan (empty_network plan) before (Frame at octets ∷ during)
+  -- what is to be served is ahead
+  ahead_now : (circuit : CircuitId) → times_awaited plan calm service origin circuit (network_after plan so_far).under_way ≡ times_ahead plan calm service origin circuit (network_after plan so_far).under_way
+  ahead_now circuit = ahead_due plan calm service quiet.frame origin circuit (network_after plan so_far).under_way is_run.checked window.calm
+      (copies_now plan events is_run before at octets during rest after service split quiet)
 
-  entries_are : (run plan so_far).entries ≡ entries_along plan (empty_network plan) before ++ told
-  entries_are = along-append plan (empty_network plan) before (Frame at octets ∷ during)
-
-  -- what was served at a site and what is ahead
-  balance : (circuit : CircuitId) → is_site plan calm service circuit ≡ true
-      → times_left origin circuit (run plan so_far).entries + times_ahead plan calm service origin circuit (network_after plan so_far).under_way ≡ owed_to at circuit
-  balance circuit site =
-      omega (
-        arith,
-        ap (times_left origin circuit) entries_are,
-        times_left-append origin circuit (entries_along plan (empty_network plan) before) told,
-        (nothing_before circuit).left,
-        ap (λ (n : NetworkState). times_ahead plan calm service origin circuit n.under_way) state_is,
-        ahead_due plan calm service origin circuit now.under_way,
-        served.balance circuit site,
-      )
+  -- all sites are reached but the sender
+  reached_is : (circuit : CircuitId) → is_site plan calm service circuit ≡ true → is_reached plan calm service at circuit ≡ not (nat_eq circuit.0 at.0)
+  reached_is circuit site =
+      all_reached plan calm service is_run.checked window.calm at circuit window.sender
+      ∙ ap (λ (b : Bool). b && not (nat_eq circuit.0 at.0)) site
 
   -- the sender is a site
   of_service : (found : Option CircuitPlan) → option_map (λ (row : CircuitPlan). row.service) found ≡ Some service → is_row_of service found ≡ true
@@ -142,12 +126,9 @@ module _ (plan : Plan) (events : List Event) (is_run : IsRun plan events) (befor
   shares : SharesSites plan before at service (network_after plan so_far) (run plan so_far).entries
   shares = record {
     others = λ circuit site away.
-        shared_out (times_left origin circuit (run plan so_far).entries) (times_ahead plan calm service origin circuit (network_after plan so_far).under_way)
-        (balance circuit site ∙ ap (λ (b : Bool). cond {A = ℕ} (not b) 1 0) away);
-    at_sender =
-        left_out (times_left origin at (run plan so_far).entries) (times_ahead plan calm service origin at (network_after plan so_far).under_way)
-        (balance at sends ∙ ap (λ (b : Bool). cond {A = ℕ} (not b) 1 0) (eq-eqb at.0 at.0 refl));
-    passed = subst (λ (n : NetworkState). CopiesHavePassed plan origin n.under_way) (sym state_is) (copies_passed plan calm service window.frame origin now.under_way served.copies);
+        subst (IsSharedOut (times_left origin circuit (run plan so_far).entries)) (ahead_now circuit) (shared.reached circuit (reached_is circuit site ∙ ap not away));
+    at_sender = subst (IsLeftOut (times_left origin at (run plan so_far).entries)) (ahead_now at) (shared.others at sends (reached_is at sends ∙ ap not (eq-eqb at.0 at.0 refl)));
+    passed = shared.passed;
   }
 
 pub runs_share_sites : RunsShareSites

@@ -1,5 +1,5 @@
 -- A window up to some event of it: before the frame enters nothing is told of it, and from its entry on each copy that is due is served.
-use Rattle.std.proofs.Common.{◌≡◌, ◌+◌, ◌++◌, ◌&&◌, ◌∙◌, ℕ, true, false, List, [], ◌∷◌, Option, Some, None, Ok, option_map, refl, ap, subst, inl, inr, arith}
+use Rattle.std.proofs.Common.{◌≡◌, ◌+◌, ◌++◌, ◌∙◌, ℕ, true, false, List, [], ◌∷◌, Option, Some, None, Ok, option_map, refl, ap, subst, inl, inr, arith}
 use Rattle.std.proofs.lemmas.List.Elements.{All-head, All-tail}
 use Rattle.std.proofs.lemmas.Bool.{and_from, or_from}
 use Rattle.std.specs.List.{All}
@@ -20,13 +20,12 @@ use Rattle.net_base.specs.plan.Roles.{are_joined_by}
 use Rattle.net_base.specs.trace.Isolated.{inner_at}
 use Rattle.net_base.specs.trace.Frame.{destination_of}
 use Rattle.network_model.specs.Absorb.{Stepped}
-use Rattle.network_model.specs.Calm.{has_live_spokes, is_calm, is_full, is_quiet}
 use Rattle.network_model.specs.Frame.{frame_event, frame_work, next_origin}
 use Rattle.network_model.specs.Reach.{is_row_on}
 use Rattle.network_model.specs.Run.{entries_along, state_after}
 use Rattle.network_model.specs.State.{NetworkState, empty_network}
 use Rattle.network_model.specs.Step.{step}
-use Rattle.network_model.specs.Window.{Window, all_spare, is_flooded_frame, some_teach, spares, teaches}
+use Rattle.network_model.specs.Window.{all_spare, is_flooded_frame, some_teach, spares, teaches}
 use Rattle.network_model.proofs.AbsorbLemmas.{of_origin}
 use Rattle.network_model.proofs.FloodLemmas.{unknown_heard}
 use Rattle.network_model.proofs.OtherLemmas.{IsApart, along, apart_before, entering_counts, some_number, numbered_from}
@@ -37,9 +36,11 @@ use Rattle.flight_laws.proofs.RuledRunLemmas.{run_ruled}
 use Rattle.flight_laws.proofs.RunLemmas.{run_ordered}
 use Rattle.packet_laws.proofs.ArriveLemmas.{IsSized, come_sized}
 use Rattle.packet_laws.proofs.RunLemmas.{runs_keep_packet_rule}
+use Rattle.flood_laws.specs.ReachedEach.{QuietWindow}
 use Rattle.flood_laws.proofs.EntryLemmas.{flooded_unlearned}
+use Rattle.flood_laws.proofs.JoinedLemmas.{IsSteady, run_steady}
 use Rattle.flood_laws.proofs.ServeLemmas.{Serves, serves_then, serves_told}
-use Rattle.flood_laws.proofs.StartLemmas.{entering_is, entering_serves, owed_to, still_self}
+use Rattle.flood_laws.proofs.StartLemmas.{entering_is, entering_serves, owed_reached, still_self}
 use Rattle.flood_laws.proofs.StillLemmas.{step_still, step_unlearned}
 use Rattle.flood_laws.proofs.WindowLemmas.{IsAfter, IsReached, StaysUnknown, step_reached, window_serves}
 
@@ -49,30 +50,30 @@ use Rattle.flood_laws.proofs.WindowLemmas.{IsAfter, IsReached, StaysUnknown, ste
 
 -- its step serves each site but the sender, or owes it a copy
 record Starts (plan : Plan) (calm : NetworkState) (service : ServiceId) (frame : List ℕ) (at : CircuitId) (stepped : Stepped) : Type 0 where
-  serves : Serves plan calm service frame (next_origin calm) (owed_to at) stepped
+  serves : Serves plan calm service frame (next_origin calm) (owed_reached plan calm service at) stepped
   entered : stepped.state.entered ≡ calm.entered + 1
 
 starts : (plan : Plan) (calm : NetworkState) (at : CircuitId) (octets frame : List ℕ) (service : ServiceId) (during : List Event) (found : Option CircuitPlan)
-    → IsChecked plan → is_calm plan calm service ≡ true → ((a b : ℕ) → are_joined_by plan service a b ≡ true → AreSettled plan calm a b) → IsSized (mtu_of plan service) frame
+    → IsChecked plan → IsSteady plan calm service → ((a b : ℕ) → are_joined_by plan service a b ≡ true → AreSettled plan calm a b) → IsSized (mtu_of plan service) frame
     → IsRuledNetwork plan calm → circuit_row plan at ≡ found → option_map (λ (row : CircuitPlan). row.service) found ≡ Some service → is_row_on calm at found ≡ true
     → inner_at plan at octets ≡ Ok frame
     → is_flooded_frame plan calm service frame (Frame at octets ∷ during) ≡ true → of_origin (next_origin calm) calm.under_way ≡ []
     → Starts plan calm service frame at (frame_event plan at octets found calm)
-starts plan calm at octets frame service during None checked calmed settled sized ruled is of_service on formed floods none = absurd (cc (of_service))
-starts plan calm at octets frame service during (Some row) checked calmed settled sized ruled is of_service on formed floods none =
+starts plan calm at octets frame service during None checked steady settled sized ruled is of_service on formed floods none = absurd (cc (of_service))
+starts plan calm at octets frame service during (Some row) checked steady settled sized ruled is of_service on formed floods none =
     let same : row.service ≡ service = cc (of_service) in
-    by same calmed settled sized floods
+    by same steady settled sized floods
   where
-    by : row.service ≡ service → is_calm plan calm service ≡ true → ((a b : ℕ) → are_joined_by plan service a b ≡ true → AreSettled plan calm a b) → IsSized (mtu_of plan service) frame
+    by : row.service ≡ service → IsSteady plan calm service → ((a b : ℕ) → are_joined_by plan service a b ≡ true → AreSettled plan calm a b) → IsSized (mtu_of plan service) frame
         → is_flooded_frame plan calm service frame (Frame at octets ∷ during) ≡ true → Starts plan calm service frame at (frame_event plan at octets (Some row) calm)
-    by same = subst (λ (s : ServiceId). is_calm plan calm s ≡ true → ((a b : ℕ) → are_joined_by plan s a b ≡ true → AreSettled plan calm a b) → IsSized (mtu_of plan s) frame
+    by same = subst (λ (s : ServiceId). IsSteady plan calm s → ((a b : ℕ) → are_joined_by plan s a b ≡ true → AreSettled plan calm a b) → IsSized (mtu_of plan s) frame
         → is_flooded_frame plan calm s frame (Frame at octets ∷ during) ≡ true → Starts plan calm s frame at (frame_event plan at octets (Some row) calm)) same
-        (λ calm_here settled_here sized_here floods_here.
+        (λ steady_here settled_here sized_here floods_here.
         let unknown = unknown_heard plan calm at octets frame row during checked is on formed floods_here in
         record {
-          serves = entering_serves plan calm at octets frame row checked calm_here settled_here sized_here ruled is on formed unknown none;
+          serves = entering_serves plan calm at octets frame row checked steady_here settled_here sized_here ruled is on formed unknown none;
           entered =
-              ap (λ (stepped : Stepped). stepped.state.entered) (entering_is plan calm at octets frame row checked calm_here settled_here sized_here ruled is on formed unknown none)
+              ap (λ (stepped : Stepped). stepped.state.entered) (entering_is plan calm at octets frame row checked steady_here settled_here sized_here ruled is on formed unknown none)
               ∙ entering_counts at octets row (frame_work plan calm at octets row) calm;
         })
 
@@ -97,7 +98,7 @@ front_untaught plan network service address (e ∷ xs) ys none =
 -- ---- from the entry on
 
 module _ (plan : Plan) (events : List Event) (run : IsRun plan events) (before : List Event) (at : CircuitId) (octets : List ℕ) (during rest after : List Event) (service : ServiceId)
-    (split : events ≡ before ++ Frame at octets ∷ (during ++ after)) (window : Window plan before at octets (during ++ rest) service) where
+    (split : events ≡ before ++ Frame at octets ∷ (during ++ after)) (window : QuietWindow plan before at octets (during ++ rest) service) where
   abbrev calm : NetworkState
   calm = state_after plan (empty_network plan) before
 
@@ -128,9 +129,10 @@ module _ (plan : Plan) (events : List Event) (run : IsRun plan events) (before :
 
   settled : (a b : ℕ) → are_joined_by plan service a b ≡ true → AreSettled plan calm a b
   settled a b joined =
-      runs_settle plan before run_before service
-      (first_holds (is_quiet plan calm service) (is_full plan calm service)
-      (first_holds (is_quiet plan calm service && is_full plan calm service) (has_live_spokes plan calm service) window.calm)) a b joined
+      runs_settle plan before run_before service window.quiet a b joined
+
+  steady : IsSteady plan calm service
+  steady = run_steady plan before service run_before window.quiet
 
   sized : IsSized (mtu_of plan service) frame
   sized = come_sized plan (In at origin octets ∷ []) service origin frame
@@ -142,10 +144,10 @@ module _ (plan : Plan) (events : List Event) (run : IsRun plan events) (before :
 
   begins : Starts plan calm service frame at (frame_event plan at octets (circuit_row plan at) calm)
   begins = starts plan calm at octets frame service (during ++ rest)
-      (circuit_row plan at) run.checked window.calm settled sized reached.ruled refl window.sender window.on window.formed window.flooded (early at).under_way
+      (circuit_row plan at) run.checked steady settled sized reached.ruled refl window.sender window.on window.formed window.flooded (early at).under_way
 
-  first : Serves plan calm service frame origin (owed_to at) entry
-  first = serves_told plan calm service frame origin (owed_to at) (Frame at octets) (frame_event plan at octets (circuit_row plan at) calm) begins.serves
+  first : Serves plan calm service frame origin (owed_reached plan calm service at) entry
+  first = serves_told plan calm service frame origin (owed_reached plan calm service at) (Frame at octets) (frame_event plan at octets (circuit_row plan at) calm) begins.serves
 
   after_entry : IsAfter plan calm service frame origin entry.state
   after_entry = record {
@@ -170,10 +172,10 @@ module _ (plan : Plan) (events : List Event) (run : IsRun plan events) (before :
   entered_one = begins.entered
 
   -- from its entry to the last of the events
-  pub served_so_far : Serves plan calm service frame origin (owed_to at) (record { state = state_after plan entry.state during; entries = entry.entries ++ entries_along plan entry.state during })
+  pub served_so_far : Serves plan calm service frame origin (owed_reached plan calm service at) (record { state = state_after plan entry.state during; entries = entry.entries ++ entries_along plan entry.state during })
   served_so_far =
-      serves_then plan calm service frame origin (owed_to at) entry (along plan entry.state during) first
-      (window_serves plan calm service frame origin run.checked window.calm settled sized entry.state (trace ++ entry.entries) during run.types
+      serves_then plan calm service frame origin (owed_reached plan calm service at) entry (along plan entry.state during) first
+      (window_serves plan calm service frame origin run.checked steady settled sized entry.state (trace ++ entry.entries) during run.types
       (front_all (IsEventOf plan) during after (All-tail (IsEventOf plan) (Frame at octets) (during ++ after) from_frame))
       (step_reached plan calm trace (Frame at octets) run.checked run.types (All-head (IsEventOf plan) (Frame at octets) (during ++ after) from_frame) reached)
       after_entry unknown (front_spare plan origin entry.state during rest window.spared))

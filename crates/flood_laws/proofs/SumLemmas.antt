@@ -1,8 +1,8 @@
 -- Sums over the wires of a plan by their places and rows.
-use Rattle.std.proofs.Common.{◌≡◌, ◌+◌, ◌*◌, ◌∙◌, ℕ, zero, suc, Bool, true, false, List, [], ◌∷◌, Some, cond, slice_get, refl, ap, sym, subst, nat_eq, zero-add, add-zero, arith, inl, inr}
+use Rattle.std.proofs.Common.{◌≡◌, ◌+◌, ◌*◌, ◌∙◌, ◌⊎◌, ℕ, zero, suc, Bool, true, false, List, [], ◌∷◌, Some, cond, slice_get, refl, ap, sym, subst, nat_eq, zero-add, add-zero, arith, inl, inr}
 use Rattle.std.proofs.lemmas.Bool.{cases_Bool}
 use Rattle.std.proofs.lemmas.Bool.Decides.{nat_tests}
-use Rattle.net_values.proofs.BoolLemmas.{clash_at}
+use Rattle.net_values.proofs.BoolLemmas.{clash_at, first_fails, second_fails}
 use Rattle.net_values.proofs.NumberLemmas.{step_into}
 use Rattle.net_base.specs.declared.plan.wire_plan.WirePlan.{WirePlan}
 use Rattle.net_base.specs.plan.Roles.{any_wire, count_wires}
@@ -94,7 +94,46 @@ wire_found test place (row ∷ rows) some = elim (cases_Bool (test place row)) [
       record { k = suc found.k; row = found.row; is = found.is; passes = subst (λ n. test n found.row ≡ true) (sym (step_into place found.k)) found.passes })
 ]
 
-past_count : (test : ℕ → WirePlan → Bool) (place k : ℕ) (w : WirePlan) (rows : List WirePlan) → count_wires test place rows ≡ 0 → slice_get rows k ≡ Some w → test (place + k) w ≡ false
+-- where none passes, no one does
+pub none_of_any : (test : ℕ → WirePlan → Bool) (rows : List WirePlan) (k : ℕ) (row : WirePlan) → any_wire test 0 rows ≡ false → slice_get rows k ≡ Some row → test k row ≡ false
+none_of_any test rows k row none is = subst (λ n. test n row ≡ false) (zero-add k) (from 0 k rows none is) where
+  from : (place k : ℕ) (rows : List WirePlan) → any_wire test place rows ≡ false → slice_get rows k ≡ Some row → test (place + k) row ≡ false
+  from place k [] none is = absurd (cc (is))
+  from place zero (x ∷ xs) none is =
+      let same : x ≡ row = cc (is) in
+      ap (λ n. test n row) (add-zero place) ∙ (ap (test place) (sym same) ∙ first_fails (test place x) (any_wire test (place + 1) xs) none)
+  from place (suc k) (x ∷ xs) none is = ap (λ n. test n row) (step_into place k) ∙ from (place + 1) k xs (second_fails (test place x) (any_wire test (place + 1) xs) none) is
+
+-- wires that pass a test are none, or one, where any two that do are one
+no_count : (test : ℕ → WirePlan → Bool) (place : ℕ) (rows : List WirePlan) → ((k : ℕ) (row : WirePlan) → slice_get rows k ≡ Some row → test (place + k) row ≡ false) → count_wires test place rows ≡ 0
+no_count test place [] none = refl
+no_count test place (row ∷ rows) none =
+    let here : test place row ≡ false = ap (λ n. test n row) (sym (add-zero place)) ∙ none 0 row refl in
+    let rest : count_wires test (place + 1) rows ≡ 0 = no_count test (place + 1) rows (λ k other is. ap (λ n. test n other) (sym (step_into place k)) ∙ none (suc k) other is) in
+    rw here (omega (arith, rest))
+
+pub few_count : (test : ℕ → WirePlan → Bool) (place : ℕ) (rows : List WirePlan)
+    → ((i j : ℕ) (w v : WirePlan) → slice_get rows i ≡ Some w → test (place + i) w ≡ true → slice_get rows j ≡ Some v → test (place + j) v ≡ true → i ≡ j)
+    → (count_wires test place rows ≡ 0) ⊎ (count_wires test place rows ≡ 1)
+few_count test place [] one = inl refl
+few_count test place (row ∷ rows) one = elim (cases_Bool (test place row)) [
+  | inl here ↦
+      (let rest : count_wires test (place + 1) rows ≡ 0 = no_count test (place + 1) rows (λ k other is. elim (cases_Bool (test (place + 1 + k) other)) [
+        | inl too ↦ absurd (cc (one 0 (suc k) row other refl (ap (λ n. test n row) (add-zero place) ∙ here) is (ap (λ n. test n other) (step_into place k) ∙ too)))
+        | inr away ↦ away
+      ]) in
+      inr (rw here (omega (arith, rest))))
+  | inr away ↦ elim (few_count test (place + 1) rows (λ i j w v is passes other also.
+      one_less i j (one (suc i) (suc j) w v is (ap (λ n. test n w) (step_into place i) ∙ passes) other (ap (λ n. test n v) (step_into place j) ∙ also)))) [
+        | inl none ↦ inl (rw away (omega (arith, none)))
+        | inr some ↦ inr (rw away (omega (arith, some)))
+      ]
+]
+  where
+    one_less : (n m : ℕ) → suc n ≡ suc m → n ≡ m
+    one_less n m e = omega (arith, e)
+
+pub past_count : (test : ℕ → WirePlan → Bool) (place k : ℕ) (w : WirePlan) (rows : List WirePlan) → count_wires test place rows ≡ 0 → slice_get rows k ≡ Some w → test (place + k) w ≡ false
 past_count test place k w [] count is = absurd (cc (is))
 past_count test place zero w (row ∷ rows) count is =
     let same : row ≡ w = cc (is) in

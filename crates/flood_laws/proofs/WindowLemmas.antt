@@ -17,7 +17,6 @@ use Rattle.net_base.specs.plan.Roles.{are_joined_by}
 use Rattle.net_base.specs.trace.Frame.{destination_of, goes_to_group}
 use Rattle.network_model.specs.declared.packet.Packet.{Packet}
 use Rattle.network_model.specs.Absorb.{Stepped}
-use Rattle.network_model.specs.Calm.{is_calm}
 use Rattle.network_model.specs.Packet.{arrive_event, packet_at}
 use Rattle.network_model.specs.State.{NetworkState}
 use Rattle.network_model.specs.Step.{step}
@@ -35,6 +34,7 @@ use Rattle.packet_laws.proofs.StepLemmas.{step_keeps_rule}
 use Rattle.flood_laws.specs.Copy.{IsStill}
 use Rattle.flood_laws.proofs.ServeArrivalLemmas.{arriving_serves}
 use Rattle.flood_laws.proofs.CountLemmas.{due}
+use Rattle.flood_laws.proofs.JoinedLemmas.{IsSteady}
 use Rattle.flood_laws.proofs.OriginLemmas.{not_named}
 use Rattle.flood_laws.proofs.ServeLemmas.{IsNearCopy, Serves, serves_apart, serves_none, serves_then, serves_told}
 use Rattle.flood_laws.proofs.StillLemmas.{IsUnlearned, step_still, step_unlearned}
@@ -85,7 +85,7 @@ pub record IsAfter (plan : Plan) (calm : NetworkState) (service : ServiceId) (fr
   pub issued : origin ≤ network.entered
   pub numbered : nat_eq 0 origin ≡ false
 
-module _ (plan : Plan) (calm : NetworkState) (service : ServiceId) (frame : List ℕ) (origin : ℕ) (checked : IsChecked plan) (calmed : is_calm plan calm service ≡ true)
+module _ (plan : Plan) (calm : NetworkState) (service : ServiceId) (frame : List ℕ) (origin : ℕ) (checked : IsChecked plan) (steady : IsSteady plan calm service)
     (settled : (a b : ℕ) → are_joined_by plan service a b ≡ true → AreSettled plan calm a b) (sized : IsSized (mtu_of plan service) frame) where
   -- what is due is owed
   abbrev owes : NetworkState → CircuitId → ℕ
@@ -107,7 +107,7 @@ module _ (plan : Plan) (calm : NetworkState) (service : ServiceId) (frame : List
       → Serves plan calm service frame origin (owes network) (arrive_event plan found network)
   arrive_serves network trace number None is own reached after unlearned = absurd (cc (own))
   arrive_serves network trace number (Some packet) is own reached after unlearned =
-      arriving_serves plan calm network trace service frame origin number packet checked calmed settled sized reached.ruled reached.rule after.still after.copies is own
+      arriving_serves plan calm network trace service frame origin number packet checked steady settled sized reached.ruled reached.rule after.still after.copies is own
       (same_number packet.origin origin own after.numbered) unlearned
 
   unlearned_now : (network : NetworkState) (events : List Event) → StaysUnknown plan service frame network events → (goes_to_group frame ≡ true)

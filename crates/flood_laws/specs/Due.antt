@@ -11,12 +11,13 @@ use Rattle.net_base.specs.plan.Places.{is_mesh_class, is_mesh_wire, wire_row}
 use Rattle.net_base.specs.plan.Roles.{wire_ends_at}
 use Rattle.edge_model.specs.Ends.{end_forwards}
 use Rattle.edge_model.specs.State.{EdgeState, is_on}
-use Rattle.network_model.specs.Reach.{ahead_wire, at_edge_of, far_of}
+use Rattle.network_model.specs.Reach.{at_edge_of, far_of}
 use Rattle.network_model.specs.State.{NetworkState}
+use Rattle.flood_laws.specs.Reached.{left_wire}
 
 -- a copy that arrives at an edge by a wire has still to serve the circuit
 abbrev pub awaits : Plan → NetworkState → ServiceId → CircuitId → EdgeId → WireId → Bool
-awaits plan calm service circuit to wire = ahead_wire plan calm service to.0 wire.0 (is_mesh_wire plan wire) (wire_row plan wire) circuit
+awaits plan calm service circuit to wire = left_wire plan calm service to.0 wire.0 (is_mesh_wire plan wire) (wire_row plan wire) circuit
 
 -- a frame that came by an arrival, a wire or else a circuit, may be flooded to a wire: no other wire is the arrival, and not both
 -- are mesh wires (RFC 4762 section 4.4)

@@ -1,6 +1,9 @@
+pub mod Reached
+pub mod ReachedEach
 pub mod Due
 pub mod Laws
 pub mod Copy
 pub mod Chain
 pub mod Hops
 pub mod Shares
+pub mod SharesReached

@@ -1,5 +1,14 @@
 //! What holds of flooded frames, and of the wires that carry them, in every run of the network.
-ghost use Rattle.flood_laws.specs.Laws.{RunsKeepWiresWhole, RunsServeOnce, RunsShareSites, RunsTellInChains};
+ghost use Rattle.flood_laws.specs.Laws.{
+  ReachesAllWhereCalm,
+  ReachesBack,
+  RunsKeepWiresWhole,
+  RunsReachWhatWiresCarry,
+  RunsServeOnce,
+  RunsShareReached,
+  RunsShareSites,
+  RunsTellInChains,
+};
 
 /// A flooded frame that enters a calm service, and of which no copy is lost or repeated, leaves at each other site of the service
 /// exactly once, within twelve segments, however its copies and other frames cross: over the full mesh of the core edges and the
@@ -32,4 +41,32 @@ pub fn runs_tell_in_chains()
 #[tactic(auto, using(crate::proofs::WholeLemmas::runs_keep_wires_whole))]
 pub fn runs_keep_wires_whole()
     ensures { RunsKeepWiresWhole }
+{}
+
+/// A flooded frame that enters a service that is quiet, be it calm or not, and of which no copy is lost or repeated, leaves exactly
+/// once at each circuit that is on at an edge that the sender's edge reaches, and at no other one, within twelve segments, however its
+/// copies and other frames cross. An edge reaches itself and each other edge whose core edge is its own, or is joined to its own by a
+/// mesh wire that carries frames; the core edge of a spoke edge is that of its spoke that carries frames, of which there is one at
+/// most (RFC 4762 sections 4.4 and 10).
+pub fn runs_reach_what_wires_carry()
+    ensures { RunsReachWhatWiresCarry }
+{}
+
+/// At each moment of such a window each site that the frame reaches either was served, exactly once, and no copy under way has still to
+/// serve it, or was not served yet and exactly one copy has to; each other site, the sender among them, was not served and has nothing
+/// to come. Between switching points a copy counts as one that arrives at the terminal edge to which it travels (RFC 6073 section 4).
+pub fn runs_share_reached()
+    ensures { RunsShareReached }
+{}
+
+/// Where a service is calm, what a flooded frame reaches is each of its circuits that is on, but the sender.
+#[tactic(auto, using(crate::proofs::CalmReachLemmas::reaches_all_where_calm))]
+pub fn reaches_all_where_calm()
+    ensures { ReachesAllWhereCalm }
+{}
+
+/// Of two circuits of a service that are on, either a flooded frame of each reaches the other one, or none of either does.
+#[tactic(auto, using(crate::proofs::MutualLemmas::reaches_back))]
+pub fn reaches_back()
+    ensures { ReachesBack }
 {}

@@ -5,4 +5,7 @@
 
 mod laws;
 
-pub use laws::{runs_keep_wires_whole, runs_serve_once, runs_share_sites, runs_tell_in_chains};
+pub use laws::{
+    reaches_all_where_calm, reaches_back, runs_keep_wires_whole, runs_reach_what_wires_carry,
+    runs_serve_once, runs_share_sites, runs_tell_in_chains,
+};

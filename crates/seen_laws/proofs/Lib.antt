@@ -9,7 +9,6 @@ pub mod EachEdgeLemmas
 pub mod EventLemmas
 pub mod HeardLemmas
 pub mod InputLemmas
-pub mod MateLemmas
 pub mod OnceLemmas
 pub mod PassingLemmas
 pub mod RunLemmas
