@@ -11,20 +11,23 @@ use Rattle.network_model.specs.State.{empty_network}
 use Rattle.flight_laws.specs.Laws.{IsRun}
 use Rattle.flight_laws.proofs.AcrossLemmas.{runs_take_mappings, runs_tell_across}
 use Rattle.flight_laws.proofs.BoundRunLemmas.{runs_agree_after_flight, runs_settle}
-use Rattle.flight_laws.proofs.ReleaseLemmas.{runs_await_releases, runs_release_unadvertised}
+use Rattle.flight_laws.proofs.ReleaseLemmas.{runs_await_releases, runs_decline_none, runs_release_unadvertised}
 use Rattle.flight_laws.proofs.RuledRunLemmas.{runs_keep_label_rule, runs_keep_told_rule}
 use Rattle.flight_laws.proofs.RunLemmas.{runs_come_up, runs_end_well, runs_follow_table}
+use Rattle.flight_laws.proofs.StayLemmas.{deliveries_end_none}
 use Rattle.network_model.proofs.SplitLemmas.{run_split}
 use Rattle.network_model.proofs.KnownLemmas.{run_serves_known_once}
 use Rattle.packet_laws.proofs.SharedLemmas.{runs_share_channels}
 use Rattle.packet_laws.proofs.RunLemmas.{runs_are_isolated, runs_keep_echoes_apart, runs_keep_packet_rule}
 use Rattle.flood_laws.proofs.ChainLemmas.{runs_tell_in_chains}
-use Rattle.flood_laws.proofs.RunLemmas.{runs_serve_once}
+use Rattle.flood_laws.proofs.RunLemmas.{runs_reach_what_wires_carry, runs_serve_once}
 use Rattle.flood_laws.proofs.ShareLemmas.{runs_share_sites}
+use Rattle.flood_laws.proofs.ShareReachedLemmas.{runs_share_reached}
 use Rattle.flood_laws.proofs.WholeLemmas.{runs_keep_wires_whole}
 use Rattle.address_laws.proofs.KnownLemmas.{runs_reach_known}
 use Rattle.address_laws.proofs.PointsLemmas.{runs_keep_points}
 use Rattle.move_laws.proofs.HealLemmas.{runs_heal_moves}
+use Rattle.settle_laws.proofs.RunLemmas.{runs_rest_quiet, runs_settle_calm}
 use Rattle.psn_net.specs.declared.net_stop.NetStop.{NetStop}
 use Rattle.psn_net.specs.Lists.{NetLists, network_seen}
 use Rattle.psn_net.specs.Runs.{AreDone, IsRunOf}
@@ -53,6 +56,8 @@ promises_kept plan events run = record {
   channels = λ before after joined. runs_share_channels plan before (first before after joined);
   once = runs_serve_once plan events run;
   shared = runs_share_sites plan events run;
+  reached = runs_reach_what_wires_carry plan events run;
+  left = runs_share_reached plan events run;
   known = run_serves_known_once plan events run.checked;
   points = runs_keep_points plan events run;
   stations = runs_reach_known plan events run;
@@ -62,11 +67,15 @@ promises_kept plan events run = record {
   agree = λ before after joined a b. runs_agree_after_flight plan before (first before after joined) a b;
   awaited = λ before after joined a b. runs_await_releases plan before (first before after joined) a b;
   released = λ before after joined a b. runs_release_unadvertised plan before (first before after joined) a b;
+  declined = λ before after joined a b. runs_decline_none plan before (first before after joined) a b;
   settled = λ before after joined service quiet a b. runs_settle plan before (first before after joined) service quiet a b;
   across = λ before after joined me from to wire row is mates. runs_tell_across plan before (first before after joined) me from to wire row is mates;
   taken = λ before after joined from to apart. runs_take_mappings plan before (first before after joined) from to apart;
   chains = λ before after joined. runs_tell_in_chains plan before (first before after joined);
   whole = λ before after joined. runs_keep_wires_whole plan before (first before after joined);
+  stand = λ before after joined. deliveries_end_none plan before (first before after joined);
+  rest = λ before after joined. runs_rest_quiet plan before (first before after joined);
+  calm = λ before after joined. runs_settle_calm plan before (first before after joined);
   labels = λ before after joined. runs_keep_label_rule plan before (first before after joined);
   contents = λ before after joined. runs_keep_told_rule plan before (first before after joined);
   endings = runs_end_well plan events run;

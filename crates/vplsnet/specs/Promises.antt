@@ -1,33 +1,40 @@
 -- What holds of the run of an accepted scenario.
-use Rattle.std.specs.Prelude.{◌≡◌, ◌++◌, nat_eq, ℕ, true, false, List, Some}
+use Rattle.std.specs.Prelude.{◌≡◌, ◌++◌, nat_eq, ℕ, true, false, List, Some, None}
 use Rattle.net_base.specs.declared.plan.Plan.{Plan}
 use Rattle.net_base.specs.declared.plan.places.EdgeId.{EdgeId}
 use Rattle.net_base.specs.declared.plan.places.ServiceId.{ServiceId}
 use Rattle.net_base.specs.declared.plan.places.WireId.{WireId}
 use Rattle.net_base.specs.declared.plan.wire_plan.WirePlan.{WirePlan}
 use Rattle.net_base.specs.declared.trace.event.Event.{Event}
+use Rattle.net_base.specs.declared.trace.event.Event.TheVariants.{Deliver}
 use Rattle.net_base.specs.plan.Paths.{mate}
 use Rattle.net_base.specs.plan.Places.{wire_row}
 use Rattle.net_base.specs.plan.Roles.{are_joined_by}
 use Rattle.net_base.specs.trace.Isolated.{Isolated}
 use Rattle.net_base.specs.trace.Split.{Split}
 use Rattle.network_model.specs.declared.packet.Packet.{Packet}
-use Rattle.network_model.specs.Calm.{is_quiet}
+use Rattle.network_model.specs.Calm.{is_calm, is_quiet}
+use Rattle.network_model.specs.Delivery.{next_delivery}
 use Rattle.network_model.specs.KnownOnce.{KnownOnce}
 use Rattle.network_model.specs.OnceEach.{OnceEach}
 use Rattle.network_model.specs.Packet.{packet_at}
 use Rattle.network_model.specs.Run.{run}
 use Rattle.network_model.specs.State.{NetworkState}
+use Rattle.network_model.specs.Step.{step}
 use Rattle.flight_laws.specs.Across.{TakesAll, TellsAcross}
 use Rattle.flight_laws.specs.Endings.{TellGoodEnds}
-use Rattle.flight_laws.specs.Releases.{AllAwaitReleases, AllReleaseUnadvertised}
+use Rattle.flight_laws.specs.Releases.{AllAwaitReleases, AllDeclineNone, AllReleaseUnadvertised}
 use Rattle.packet_laws.specs.Apart.{IsNoFrame}
 use Rattle.packet_laws.specs.Carried.{KeepsPacketRule}
 use Rattle.packet_laws.specs.Channel.{SharesChannel}
 use Rattle.flood_laws.specs.Laws.{IsWholeWhereCalm, TellsWhereQuiet}
+use Rattle.flood_laws.specs.ReachedEach.{ReachedEach}
 use Rattle.flood_laws.specs.Shares.{SharesEach}
+use Rattle.flood_laws.specs.SharesReached.{SharesReachedEach}
 use Rattle.address_laws.specs.Laws.{KnownAreReached, PointsLast}
 use Rattle.move_laws.specs.Laws.{MovesHeal}
+use Rattle.settle_laws.specs.Laws.{HasLabels}
+use Rattle.settle_laws.specs.Sound.{is_sound_service}
 use Rattle.flight_laws.specs.Laws.{AgreesAfterFlight, AreSettled, BothStand, FollowsTable, IsStillBetween, IsUp, KeepsLabelRule, KeepsToldRule, network_after}
 
 -- something holds of each state on the way of a run: before each event, and after the last one
@@ -66,6 +73,18 @@ TakeMappings plan network = (from to : ℕ) → nat_eq from to ≡ false → Tak
 abbrev pub KeepEchoesApart : Plan → NetworkState → Type 0
 KeepEchoesApart plan network = (number : ℕ) (packet : Packet) → packet_at network number ≡ Some packet → packet.origin ≡ 0 → IsNoFrame plan network packet
 
+-- deliveries end no connection: two ends that stand do so after each one
+abbrev pub StandThroughDeliveries : Plan → NetworkState → Type 0
+StandThroughDeliveries plan network = (from to : EdgeId) (count a b : ℕ) → BothStand network a b → BothStand (step plan network (Deliver from to count)).state a b
+
+-- where nothing can be delivered any more every service is quiet
+abbrev pub AreQuietAtRest : Plan → NetworkState → Type 0
+AreQuietAtRest plan network = next_delivery plan network ≡ None → (service : ServiceId) → is_quiet plan network service ≡ true
+
+-- and a quiet service is calm exactly where it is sound, as long as no edge is out of labels
+abbrev pub AreCalmWhereSound : Plan → NetworkState → Type 0
+AreCalmWhereSound plan network = HasLabels network → (service : ServiceId) → is_quiet plan network service ≡ true → is_calm plan network service ≡ is_sound_service plan network service
+
 -- what holds of every run of a scenario
 pub record KeepsPromises (plan : Plan) (events : List Event) : Type 0 where
   -- customers stay apart, over wires too
@@ -85,6 +104,11 @@ pub record KeepsPromises (plan : Plan) (events : List Event) : Type 0 where
   -- and at each moment before that each other site was served, or is ahead of one copy under way, which has passed four segments at
   -- most for each wire before its own, and there one more than switching points
   pub shared : SharesEach plan events
+  -- in a service that is quiet, be it calm or not, each flooded frame leaves once at each circuit to which wires that carry frames lead, and
+  -- at no other one
+  pub reached : ReachedEach 12 plan events
+  -- and at each moment before that each of these circuits was served, or has to be served by one copy under way
+  pub left : SharesReachedEach plan events
   -- each frame to a known station leaves by one port at most
   pub known : KnownOnce plan events
   -- learned addresses that point to the sites of their stations keep to it as frames and packets come
@@ -103,6 +127,8 @@ pub record KeepsPromises (plan : Plan) (events : List Event) : Type 0 where
   pub awaited : Throughout (AllAwaitReleases plan) plan events
   -- and no Label Release on its way names a label that its receiver advertises
   pub released : Throughout (AllReleaseUnadvertised plan) plan events
+  -- no end is declined: no edge releases a label that was not withdrawn
+  pub declined : Throughout (AllDeclineNone plan) plan events
   pub settled : Throughout (AreSettledWhereQuiet plan) plan events
   -- a switching point tells on one side exactly what it holds on the other, and takes whatever is told to it; where all is heard, what is
   -- told along a wire is one chain from its terminal edges, and in a calm service a wire whose first end forwards is whole
@@ -110,6 +136,10 @@ pub record KeepsPromises (plan : Plan) (events : List Event) : Type 0 where
   pub taken : Throughout (TakeMappings plan) plan events
   pub chains : Throughout (TellsWhereQuiet plan) plan events
   pub whole : Throughout (IsWholeWhereCalm plan) plan events
+  -- signalling that has come to rest decides nothing more: then what is calm is decided by the plan, the settings and the connections
+  pub stand : Throughout (StandThroughDeliveries plan) plan events
+  pub rest : Throughout (AreQuietAtRest plan) plan events
+  pub calm : Throughout (AreCalmWhereSound plan) plan events
   -- wherever a label is named it was given before, and whoever owns it is the end that it is named with
   pub labels : Throughout (KeepsLabelRule plan) plan events
   -- wherever a content is told it is the one that the plan has told there, but for its status

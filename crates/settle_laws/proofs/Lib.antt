@@ -1,0 +1,13 @@
+pub mod CalmLemmas
+pub mod CarryLemmas
+pub mod ChoiceLemmas
+pub mod EndLemmas
+pub mod Examples
+pub mod KeepLemmas
+pub mod PassingLemmas
+pub mod RestLemmas
+pub mod RunLemmas
+pub mod StatusLemmas
+pub mod StitchLemmas
+pub mod TerminalLemmas
+pub mod WireLemmas
