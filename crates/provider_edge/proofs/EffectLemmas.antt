@@ -855,7 +855,7 @@ circuit_kept plan Holds kept checked told circuit on None work here = kept.idle 
 circuit_kept plan Holds kept checked told circuit on (Some row) work here =
     changed_kept plan Holds kept checked told (turned plan circuit row on) work (is_own work.edge row && not (is_same on (is_on work.edge circuit))) here
 
-step_kept : (plan : Plan) (Holds : Work → Type 0) → AreKept plan Holds → IsChecked plan → (told : Answers) (given : Input) (work : Work) → HasPeers plan work.edge → Holds work
+pub step_kept : (plan : Plan) (Holds : Work → Type 0) → AreKept plan Holds → IsChecked plan → (told : Answers) (given : Input) (work : Work) → HasPeers plan work.edge → Holds work
     → Holds (edge_step plan told given work)
 step_kept plan Holds kept checked told (input.Connected peer) work peers here = connected_kept plan Holds kept checked told peer work here
 step_kept plan Holds kept checked told (input.Octets peer bytes) work peers here = heard_kept plan Holds kept checked told peer bytes.now work peers here
@@ -882,7 +882,7 @@ fit-append : (plan : Plan) (es : List Effect) (e : Effect) → AllFit plan es �
 fit-append plan [] e all here = (here, tt)
 fit-append plan (x ∷ es) e all here = (all.0, fit-append plan es e all.1 here)
 
-fit_kept : (plan : Plan) → AreKept plan (λ w. AllFit plan w.effects)
+pub fit_kept : (plan : Plan) → AreKept plan (λ w. AllFit plan w.effects)
 unfolding changes idles gives puts posts
 fit_kept plan = record {
   changed = λ change w here. here;
