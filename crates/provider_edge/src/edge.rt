@@ -1,11 +1,11 @@
 //! One provider edge.
-ghost use Rattle.std.specs.Prelude.{◌≡◌, ◌<◌, ◌≤◌, ◌↔◌, ◌⊎◌, Some, None, true, false, [], length, IfOk, IfErr, IfSome, IsNone, IsErrOf, OnOk, position};
+ghost use Rattle.std.specs.Prelude.{◌≡◌, ◌<◌, ◌≤◌, ◌↔◌, ◌⊎◌, Some, None, true, false, [], is_some, length, IfOk, IfErr, IfSome, IsNone, IsErrOf, OnOk, position};
 ghost use Rattle.std.specs.List.{find};
 ghost use Rattle.net_base.specs.{plan.Accepted.{IsChecked}, plan.Places.{service_row}};
 ghost use Rattle.pw_messages.specs.LinkAnswers.{Agrees, Answers};
 ghost use Rattle.hvpls_spokes.specs.Port.{ports_of};
 ghost use Rattle.pw_signalling.specs.AnyEnd.{end_of};
-ghost use Rattle.edge_model.specs.{EndPlaces.{end_places, ends_here, is_end_of_wire}, Role.{down_at}};
+ghost use Rattle.edge_model.specs.{EndPlaces.{end_places, ends_here, is_end_of_wire}, Labels.{label_to_give}, Role.{down_at}};
 ghost use Rattle.edge_model.specs.{State.{addresses_of, empty_edge, end_at, has_end, is_on}, Step.{edge_step}, Synced.{InSync}};
 ghost use Rattle.edge_model.specs.Work.{GoesOn, beginning};
 ghost use Rattle.edge_forwarding.specs.Domain.{age_of};
@@ -287,6 +287,43 @@ impl Edge {
         ensures { result ≡ is_on (seen self.now) circuit }
     {
         self.forwarding.is_on(circuit)
+    }
+
+    /// Whether a wire of the plan is on at the edge.
+    #[tactic(auto, unfolding(crate::specs::Lists::seen))]
+    pub fn is_wire_on(&self, wire: WireId) -> bool
+        requires { wire.0 < length self.now.plan.wires }
+        ensures { result ≡ (seen self.now).wire_on wire.0 }
+    {
+        self.wires_on[wire.0 as usize]
+    }
+
+    /// The failure bits that are set of the edge's end of a wire of the plan, 0 to 31 (RFC 4446 section 3.5).
+    #[tactic(auto, unfolding(crate::specs::Lists::seen))]
+    pub fn bits_of(&self, wire: WireId) -> u8
+        requires { wire.0 < length self.now.plan.wires }
+        ensures bits { result ≡ (seen self.now).bits wire.0 }
+        ensures small { result ≤ 31 }
+    {
+        self.bits[wire.0 as usize]
+    }
+
+    /// The priority number of the spoke on a wire of the plan, 0 to 255: of several usable ones that with the least is chosen (RFC
+    /// 6870).
+    #[tactic(auto, unfolding(crate::specs::Lists::seen))]
+    pub fn priority_of(&self, wire: WireId) -> u8
+        requires { wire.0 < length self.now.plan.wires }
+        ensures { result ≡ (seen self.now).priority wire.0 }
+    {
+        self.priorities[wire.0 as usize]
+    }
+
+    /// Whether the edge has a label to give: the next one, or where that is 1048576 one that is free again (RFC 3032 section 2.1).
+    #[tactic(auto, unfolding(crate::specs::Lists::seen))]
+    pub fn has_label(&self) -> bool
+        ensures { result ≡ is_some (label_to_give (seen self.now)) }
+    {
+        self.ends.has_label()
     }
 
     /// How many ticks have passed; the count stays at 2^64 - 1 once it is there.

@@ -83,15 +83,6 @@ impl Edge {
         self.ends.ends_here(wire)
     }
 
-    // Whether a wire is on at the edge.
-    #[tactic(auto, unfolding(crate::specs::Lists::seen))]
-    fn is_wire_on(&self, wire: WireId) -> bool
-        requires { wire.0 < length self.now.plan.wires }
-        ensures { result ≡ (seen self.now).wire_on wire.0 }
-    {
-        self.wires_on[wire.0 as usize]
-    }
-
     // Puts a wire on or off; its ends are declined no longer where it is put on. They are marked.
     fn turn_wire(&mut self, wire: WireId, on: bool)
         requires working { self.old.stopped ≡ true }

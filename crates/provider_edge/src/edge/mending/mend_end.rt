@@ -261,16 +261,6 @@ impl Edge {
         self.ends.end(slot)
     }
 
-    // The failure bits of the end of a wire, at most 31.
-    #[tactic(auto, unfolding(crate::specs::Lists::seen))]
-    pub(crate) fn bits_of(&self, wire: WireId) -> u8
-        requires { wire.0 < length self.now.plan.wires }
-        ensures bits { result ≡ (seen self.now).bits wire.0 }
-        ensures small { result ≤ 31 }
-    {
-        self.bits[wire.0 as usize]
-    }
-
     // What an end is to its service.
     #[tactic(auto, unfolding(crate::specs::Lists::seen))]
     pub(crate) fn role_of(&self, slot: usize) -> EndRole

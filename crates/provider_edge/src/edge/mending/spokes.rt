@@ -128,15 +128,6 @@ impl Edge {
         }
     }
 
-    // The priority number of the spoke on a wire.
-    #[tactic(auto, unfolding(crate::specs::Lists::seen))]
-    pub(crate) fn priority_of(&self, wire: WireId) -> u8
-        requires { wire.0 < length self.now.plan.wires }
-        ensures { result ≡ (seen self.now).priority wire.0 }
-    {
-        self.priorities[wire.0 as usize]
-    }
-
     // Whether the wire is a spoke that starts at the edge.
     pub(crate) fn is_own_spoke(&self, wire: WireId) -> bool
         ensures own { result ≡ is_own_spoke self.now.me (wire_row self.now.plan wire) }
