@@ -1,5 +1,5 @@
 //! One end is mended: what it tells follows what it should tell by now (RFC 8077 sections 6 and 6.3).
-ghost use Rattle.std.specs.Prelude.{◌≡◌, ◌<◌, ◌≤◌, List, length, None, true, IfOk, OnOk};
+ghost use Rattle.std.specs.Prelude.{◌≡◌, ◌<◌, List, length, None, true, IfOk, OnOk};
 ghost use Rattle.net_base.specs.{declared.outside.link_call.LinkCall.{LinkCall}, plan.Places.{wire_row}};
 ghost use Rattle.edge_model.specs.declared.end_place.EndPlace.{EndPlace};
 ghost use Rattle.edge_model.specs.Mend.{advertises_wish, forgetting_wire, is_new_choice, mends_choice, mends_end, mends_status, offer_stands, tells_down, wish};
