@@ -5,6 +5,8 @@ from __future__ import annotations
 from collections import Counter
 
 from .probing import PHASES
+from .reached import Reach, apart, reached
+from .sound import used_wires, why_not_sound
 from .summing import parted
 
 TYPE_CHECKING = False
@@ -14,8 +16,11 @@ if TYPE_CHECKING:
 
     from .cases import Base
     from .failures import Case
+    from .probing import Frame
 
-NOTHING = {}
+NOTHING: dict[str, int] = {}
+# The phase that is settled while the failure stands.
+SETTLED = "failed"
 
 
 class Reading:
@@ -26,21 +31,29 @@ class Reading:
         self.network, self.joined = base.network.copy(), dict(base.joined)
         # The phase, and how many of its frames have come.
         self.phase, self.place = PHASES.index(phase), 0
-        self.found = {name: {"never": Counter(), "twice": Counter()} for name in PHASES[self.phase :]}
+        self.found: dict[str, dict[str, Counter[str]]] = {name: {"never": Counter(), "twice": Counter()} for name in PHASES[self.phase :]}
         # The frame that is tried: the circuits that it is due at, and how often it left at each.
-        self.frame, self.due, self.left = None, NOTHING, {}
+        self.frame: Frame | None = None
+        self.due, self.left = NOTHING, dict[str, int]()
         # How many frames have come, and those that something is wrong with: their number, and the sites.
-        self.frames, self.faulty = 0, []
+        self.frames = 0
+        self.faulty: list[tuple[int, int, list[str], list[str]]] = []
         # Events that switch something, deliveries since the last one of them, and the round in which one stands.
         self.switches, self.delivered, self.round = 0, 0, 0
         self.is_mended, self.is_late, self.last = False, False, {"failed": 0, "mended": 0}
         # From whom to whom something of LDP was delivered.
-        self.ways = {"failed": {}, "mended": {}}
-        self.spans, self.open = [], {}
+        self.ways: dict[str, dict[tuple[str, str], None]] = {"failed": {}, "mended": {}}
+        self.spans: list[Any] = []
+        self.open: dict[Any, Any] = {}
+        # Whom the settled failure reaches, and whether each broadcast of that phase went so.
+        self.reach: dict[str, Reach] = {}
+        self.settled: list[dict[str, Any]] = []
+        self.is_as_settled = True
 
     def read(self, lines: list[str]) -> Reading:
         """Reads the lines of the report. Of packets nothing is looked at but where their frames leave."""
-        event, entries = None, []
+        event: str | None = None
+        entries: list[str] = []
         for line in lines:
             start = line[:3]
             if start in ("sen", "> a", "dro"):
@@ -72,28 +85,53 @@ class Reading:
         if self.place == len(frames):
             self.phase, self.place = self.phase + 1, 0
             frames = self.base.probes.frames[PHASES[self.phase]]
+            if PHASES[self.phase] == SETTLED:
+                self.foretell()
         self.frame = frames[self.place]
         self.place, self.frames = self.place + 1, self.frames + 1
 
+    def foretell(self) -> None:
+        """Whom each site reaches while the failure stands, now that nothing is on its way: by the wires that are sound and used."""
+        network, plan = self.network, self.base.plan
+        for service in plan.services:
+            reach = self.reach[service] = Reach(network.shape.of[service], used_wires(network, service))
+            rows = apart(plan, reach, network.sites(service))
+            why_not = why_not_sound(network, service)
+            if rows or why_not:
+                self.settled.append({"service": service, "sound": not why_not, "why_not_sound": why_not, "apart": rows})
+
     def enter(self) -> None:
         """It enters: its circuit is on."""
-        on = self.network.on
-        if self.frame.to is None:
-            sites = self.base.sites[self.frame.circuit]
-            self.due = {site: 1 for site in sites if on[site] and site != self.frame.circuit}
+        on, frame = self.network.on, self.frame
+        if frame is None:
+            return
+        if frame.to is None:
+            sites = self.base.sites[frame.circuit]
+            self.due = {site: 1 for site in sites if on[site] and site != frame.circuit}
         else:
-            self.due = {self.frame.to: 1} if on[self.frame.to] else NOTHING
+            self.due = {frame.to: 1} if on[frame.to] else NOTHING
 
     def end_frame(self) -> None:
         """What became of the frame before."""
-        if self.left != self.due:
+        frame = self.frame
+        if frame is not None and frame.to is None and PHASES[self.phase] == SETTLED:
+            self.compare(frame.circuit)
+        if frame is not None and self.left != self.due:
             never = [site for site in self.due if site not in self.left]
-            twice = [site for site, count in self.left.items() if count > 1 or site == self.frame.circuit]
+            twice = [site for site, count in self.left.items() if count > 1 or site == frame.circuit]
             self.found[PHASES[self.phase]]["never"].update(never)
             self.found[PHASES[self.phase]]["twice"].update(twice)
             if never or twice:
                 self.faulty.append((self.frames, self.phase, never, twice))
         self.frame, self.due, self.left = None, NOTHING, {}
+
+    def compare(self, circuit: str) -> None:
+        """Whether the broadcast of a circuit left once at each site that was foretold, and nowhere else."""
+        plan = self.base.plan
+        service = plan.circuits[circuit]["service"]
+        sites = self.network.sites(service)
+        due = reached(plan, self.reach[service], sites, circuit) if circuit in sites else []
+        self.is_as_settled = self.is_as_settled and self.left == dict.fromkeys(due, 1)
 
     def control(self, text: str, lines: list[str]) -> None:
         """An event of LDP or of a switch, with its entries."""
@@ -131,23 +169,23 @@ class Reading:
         """Which edges lost or found each other."""
         for service in self.network.look():
             joined, before = self.network.joined(service), self.joined[service]
+            now, sites = (self.stage(), self.round), tuple(self.network.sites(service))
             for pair in before - joined:
-                self.open[service, pair] = (self.stage(), self.round)
+                self.open[service, pair] = now, sites
             for pair in joined - before:
-                start = self.open.pop((service, pair), None)
-                if start is not None:
-                    self.spans.append((service, pair, start, (self.stage(), self.round)))
+                if (service, pair) in self.open:
+                    self.spans.append((service, pair, *self.open.pop((service, pair)), now))
             self.joined[service] = joined
 
     def lost(self) -> Iterator[Any]:
-        """Which sites lost each other, when, and for how many rounds."""
-        together = {}
-        for service, pair, start, end in self.spans + [(*key, start, None) for key, start in self.open.items()]:
-            together.setdefault((service, start, end), []).append(pair)
-        for (service, start, end), pairs in together.items():
-            sites = parted(self.base.plan, service, pairs)
-            if sites:
-                yield {"service": service, "sites": sites, "from": moment(start), "to": moment(end), "rounds": rounds_of(start, end)}
+        """Which sites lost each other, when, and for how many rounds: those that were on when they did."""
+        together: dict[Any, list[Any]] = {}
+        for service, pair, start, sites, end in self.spans + [(*key, *opened, None) for key, opened in self.open.items()]:
+            together.setdefault((service, start, sites, end), []).append(pair)
+        for (service, start, sites, end), pairs in together.items():
+            found = parted(self.base.plan, sites, pairs)
+            if found:
+                yield {"service": service, "sites": found, "from": moment(start), "to": moment(end), "rounds": rounds_of(start, end)}
 
     def row(self) -> dict[Any, Any]:
         """All that is told of the case."""
@@ -161,6 +199,8 @@ class Reading:
             "never": {name: dict(self.found[name]["never"]) for name in self.found if self.found[name]["never"]},
             "twice": {name: dict(self.found[name]["twice"]) for name in self.found if self.found[name]["twice"]},
             "rounds": self.last,
+            "settled": self.settled,
+            "as_settled": self.is_as_settled,
             "calm": all(name in calm for name in self.base.calm),
             "whole": not self.is_late,
             "given_rounds": self.rounds,

@@ -5,15 +5,13 @@ from __future__ import annotations
 from itertools import combinations
 from typing import NamedTuple
 
-from .network import Network
-
 TYPE_CHECKING = False
 if TYPE_CHECKING:
     from collections.abc import Iterable, Iterator
     from typing import Any
 
-    from .plan import Plan
-    from .report import Event
+    from .network import Network
+    from .plan import Plan, Wire
 
 # What fails, in the order of the table.
 KINDS = ["session", "wire", "restart", "circuit", "priority", "status"]
@@ -30,28 +28,10 @@ class Case(NamedTuple):
     mending: tuple
 
 
-class Settings:
-    """What the set-up leaves switched: wires, circuits, priorities and statuses, each as its last event set it."""
-
-    def __init__(self, plan: Plan, events: Iterable[Event]) -> None:
-        self.plan, self.last = plan, {}
-        for event in events:
-            if event.kind in ("wire", "status", "priority") and not event.is_idle():
-                self.last[event.kind, *event.words[:2]] = event.words[2]
-            elif event.kind == "circuit" and not event.is_idle():
-                self.last[event.kind, event.words[0]] = event.words[1]
-
-    def of(self, *key: Any) -> Any:
-        """How something is set: a wire or a circuit on or off, a number of a priority or a status."""
-        usual = {"wire": "on", "circuit": "on", "status": 0}
-        return self.last.get(key, self.plan.wires[key[2]].priority if key[0] == "priority" else usual[key[0]])
-
-
-def cases_of(plan: Plan, network: Network, events: Iterable[Event], kinds: Iterable[str]) -> list[Any]:
-    """The cases of these kinds: those that change something in the network that the events of the set-up left."""
-    settings = Settings(plan, events)
+def cases_of(plan: Plan, network: Network, kinds: Iterable[str]) -> list[Any]:
+    """The cases of these kinds: those that change something in the network that the set-up left."""
     makers = {"session": sessions, "wire": wires, "restart": restarts, "circuit": circuits, "priority": priorities, "status": statuses}
-    return [case for kind in KINDS if kind in kinds for case in makers[kind](plan, network, settings)]
+    return [case for kind in KINDS if kind in kinds for case in makers[kind](plan, network)]
 
 
 def case(kind: str, failure: Any, *mending: Any) -> Case:
@@ -59,22 +39,22 @@ def case(kind: str, failure: Any, *mending: Any) -> Case:
     return Case(failure, kind, (failure,), mending)
 
 
-def sessions(plan: Plan, network: Network, _settings: Any) -> Iterator[Any]:
+def sessions(plan: Plan, network: Network) -> Iterator[Any]:
     """Each session that stands is lost, at the end that comes first in the plan."""
     for a, b in plan.pairs():
         if network.is_up(a, b):
             yield case("session", f"lose {a} {b}", f"connect {a} {b}")
 
 
-def wires(plan: Plan, _network: Any, settings: Any) -> Iterator[Any]:
+def wires(plan: Plan, network: Network) -> Iterator[Any]:
     """Each wire goes off at either end."""
     for wire in plan.wires.values():
         for edge in wire.ends():
-            if settings.of("wire", edge, wire.name) == "on":
+            if not network.switches.is_off(edge, wire.name):
                 yield case("wire", f"wire {edge} {wire.name} off", f"wire {edge} {wire.name} on")
 
 
-def restarts(plan: Plan, network: Network, _settings: Any) -> Iterator[Any]:
+def restarts(plan: Plan, network: Network) -> Iterator[Any]:
     """Each edge with a session restarts; all its connections come back."""
     for edge in plan.edges:
         pairs = [pair for pair in plan.pairs() if edge in pair and network.is_up(*pair)]
@@ -82,18 +62,18 @@ def restarts(plan: Plan, network: Network, _settings: Any) -> Iterator[Any]:
             yield case("restart", f"restart {edge}", *(f"connect {a} {b}" for a, b in pairs))
 
 
-def circuits(plan: Plan, network: Network, _settings: Any) -> Iterator[Any]:
+def circuits(plan: Plan, network: Network) -> Iterator[Any]:
     """Each circuit goes off."""
     for name in plan.circuits:
         if network.on[name]:
             yield case("circuit", f"circuit {name} off", f"circuit {name} on")
 
 
-def priorities(plan: Plan, _network: Any, settings: Any) -> Iterator[Any]:
+def priorities(plan: Plan, network: Network) -> Iterator[Any]:
     """Each of several spokes of a spoke edge is the last one where it was the first, and the first one where it was not."""
     for wire, others in rivals(plan):
-        number = settings.of("priority", wire.path[0], wire.name)
-        least = min(settings.of("priority", other.path[0], other.name) for other in others)
+        number = network.switches.priority_of(wire)
+        least = min(map(network.switches.priority_of, others))
         new = LAST if number <= least else max(0, least - 1)
         if new != number:
             yield case("priority", f"priority {wire.path[0]} {wire.name} {new}", f"priority {wire.path[0]} {wire.name} {number}")
@@ -102,7 +82,7 @@ def priorities(plan: Plan, _network: Any, settings: Any) -> Iterator[Any]:
 def rivals(plan: Plan) -> Iterator[Any]:
     """Each spoke that is one of several of its edge and service, with the others."""
     spokes = [wire for wire in plan.wires.values() if wire.kind == "spoke"]
-    found = {}
+    found: dict[tuple[str, str], list[Wire]] = {}
     for wire in spokes:
         found.setdefault((wire.service, wire.path[0]), []).append(wire)
     for wire in spokes:
@@ -111,12 +91,12 @@ def rivals(plan: Plan) -> Iterator[Any]:
             yield wire, others
 
 
-def statuses(plan: Plan, _network: Any, settings: Any) -> Iterator[Any]:
+def statuses(plan: Plan, network: Network) -> Iterator[Any]:
     """Each spoke fails at its spoke edge, which tells it by a status."""
     for wire in plan.wires.values():
         if wire.kind == "spoke":
             edge = wire.path[0]
-            bits = settings.of("status", edge, wire.name)
+            bits = network.switches.bits_of(edge, wire.name)
             if bits & FAILED == 0:
                 yield case("status", f"status {edge} {wire.name} {bits | FAILED}", f"status {edge} {wire.name} {bits}")
 

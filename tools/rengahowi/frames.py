@@ -4,6 +4,7 @@ from __future__ import annotations
 
 from .network import Network
 from .pings import Pings
+from .reached import reach_of, reached
 from .report import ALWAYS
 
 TYPE_CHECKING = False
@@ -12,6 +13,8 @@ if TYPE_CHECKING:
     from .report import Report
 
 WINDOW = ("frame", "arrive", "drop", "again")
+# So many pairs of edges are named.
+MOST_PAIRS = 3
 # What a script's lines tell of Hellos.
 NOTED = ("hello", "barred", "adjacency")
 # What is read behind the last line, so that each line has one behind it.
@@ -31,8 +34,8 @@ class Frame:
     """A frame that entered: where, to which station, into what state of its service, and what became of its copies."""
 
     __slots__ = (
-        *("event", "circuit", "service", "edge", "origin", "to", "source", "is_group", "calm", "sites", "heard"),
-        *("left", "dropped", "lost", "aged", "repeated", "hops", "under_way", "disturbed"),
+        *("event", "circuit", "service", "edge", "origin", "to", "source", "is_group", "calm", "sites", "reached", "unsettled", "heard"),
+        *("left", "dropped", "lost", "aged", "repeated", "hops", "under_way", "disturbed", "is_told"),
     )
 
     def __init__(self, network: Network, event: Moment, words: list[str]) -> None:
@@ -41,8 +44,13 @@ class Frame:
         self.event, self.circuit, self.service, self.edge = event, circuit, row["service"], row["edge"]
         self.origin, self.to, self.source = int(origin), octets[:12], octets[12:24]
         self.is_group = len(octets) > 1 and int(octets[:2], 16) % 2 == 1
-        self.calm = network.is_calm(self.service)
+        self.calm, self.unsettled = network.is_calm(self.service), network.unsettled(self.service)
         self.sites = [site for site in network.sites(self.service) if site != circuit]
+        # In a service that is not calm a report of another make may tell too little for a promise.
+        self.is_told = self.calm or network.tells_sessions(self.service)
+        self.reached = self.sites
+        if not self.calm:
+            self.reached = reached(network.plan, reach_of(network, self.service), self.sites, circuit)
         self.heard = False
         self.left: dict[str, int] = {}
         self.dropped: list[tuple[Moment, str, str]] = []
@@ -69,17 +77,20 @@ class Frame:
         """The circuits at which it left more than once, and its own where it left there."""
         return [site for site, count in self.left.items() if count > 1 or site == self.circuit]
 
-    def elsewhere(self) -> list[str]:
-        """The circuits at which it left that are no site which it has to reach."""
-        return [circuit for circuit in self.left if circuit not in self.sites]
+    def is_as_reached(self) -> bool:
+        """Whether it left once at each site that it reaches, and nowhere else."""
+        return self.left == dict.fromkeys(self.reached, 1)
 
     def why_not_promised(self) -> list[str]:
-        """Why the promise that each other site gets it exactly once does not speak of it; empty where it does."""
+        """Why the promise that each site which it reaches gets it exactly once, and no other one, does not speak of it; empty where it
+        does."""
         reasons = []
         if not self.is_flooded():
             reasons.append("it is dropped where it enters" if not self.is_formed() else "its station was heard before")
-        if not self.calm:
-            reasons.append("the service was not calm")
+        if self.unsettled:
+            reasons.append(f"the service was not quiet ({some_pairs(self.unsettled)})")
+        elif not self.is_told:
+            reasons.append("the service was not calm, and the report does not tell all of LDP and of packets")
         if self.disturbed is not None:
             reasons.append(f"event {self.disturbed.number} ({self.disturbed.text}) came while copies were under way")
         reasons += [f"packet {packet} was lost" for packet in self.lost]
@@ -90,11 +101,18 @@ class Frame:
         return reasons
 
 
-class Span:
-    """Two edges that lost each other in a service, from one event to another one, and the deliveries until then."""
+def some_pairs(pairs: list[tuple[str, str]]) -> str:
+    """The first of some pairs of edges, and how many more there are."""
+    more = f" and {len(pairs) - MOST_PAIRS} more" if len(pairs) > MOST_PAIRS else ""
+    return ", ".join("-".join(pair) for pair in pairs[:MOST_PAIRS]) + more
 
-    def __init__(self, start: Moment, deliveries: int) -> None:
-        self.start, self.deliveries = start, -deliveries
+
+class Span:
+    """Two edges that lost each other in a service, from one event to another one, the deliveries until then, and the sites that there
+    were when it began."""
+
+    def __init__(self, start: Moment, deliveries: int, sites: list[str]) -> None:
+        self.start, self.deliveries, self.sites = start, -deliveries, sites
         self.end: Moment | None = None
 
     def close(self, event: Moment | None, deliveries: int) -> None:
@@ -154,7 +172,7 @@ class Run:
             if self.entered or self.ended or self.network.told:
                 self.end_event()
             self.count, self.line, self.told, self.pings.now = self.count + 1, line, None, None
-            self.is_idle = rows[line + 1][0] == "idle" and row[1] not in ALWAYS
+            self.is_idle = rows[line + 1][0] == "idle" and row[1] not in ALWAYS and self.network.is_idle(True, row[1], row[2:])
             if self.open_frames and row[1] not in WINDOW:
                 self.disturb()
             if self.is_idle:
@@ -276,6 +294,8 @@ class Run:
         if frame is None:
             return
         frame.left[circuit] = frame.left.get(circuit, 0) + 1
+        if hops != "0" and frame.event.number == self.count and not frame.calm:
+            frame.is_told = False  # it passed a segment by no packet
         if hops != frame.hops and int(hops) > int(frame.hops):
             frame.hops = hops
 
@@ -289,7 +309,7 @@ class Run:
         if self.pings.now is not None:
             self.pings.now.dropped.append((self.moment(), edge, cause))
 
-    def pong(self, _row: list[str]) -> None:
+    def pong(self, row: list[str]) -> None:
         """A ping is answered."""
         if self.pings.now is not None:
             self.pings.now.answers += 1
@@ -353,7 +373,7 @@ class Run:
         self.look_anew(service)
         joined = self.joined[service]
         for pair in before - joined:
-            spans[pair] = Span(self.moment(), self.deliveries)
+            spans[pair] = Span(self.moment(), self.deliveries, self.network.sites(service))
             self.spans[service].append((pair, spans[pair]))
         for pair in joined - before:
             if pair in spans:

@@ -2,6 +2,8 @@
 
 from __future__ import annotations
 
+from .switches import Switches
+
 TYPE_CHECKING = False
 if TYPE_CHECKING:
     from collections.abc import Iterable, Sequence
@@ -60,11 +62,12 @@ class Network:
         self.pipes = {way: Pipe() for a, b in self.shape.pairs for way in ((a, b), (b, a))}
         self.sessions = {way: NEVER for way in self.pipes}
         self.ends = {(edge, wire.name): "NoLocal" for wire in plan.wires.values() for edge in wire.ends()}
-        self.on = {circuit: True for circuit in plan.circuits}
+        self.switches = Switches(plan)
         self.sites_on: dict[str, list[str]] = {}  # of each service, where it was asked for since the last circuit went on or off
         self.packets: dict[Any, Any] = {}
         self.heard = 0  # PDUs that were delivered whole
-        self.calm: dict[str, bool] = {}
+        # What was looked at since the last word of LDP: by what it is, and the service.
+        self.looked: dict[tuple[str, str], Any] = {}
         # The wires that carried frames when they were looked at last, and those whose ends or sessions told something since.
         self.carrying: set[str] = set()
         self.told: set[str] = set()
@@ -74,19 +77,45 @@ class Network:
         made = Network.__new__(Network)
         made.plan, made.shape, made.heard = self.plan, self.shape, self.heard
         made.pipes = {way: pipe.copy() for way, pipe in self.pipes.items()}
-        for name in ("stands", "sessions", "ends", "on", "sites_on", "packets", "calm", "carrying", "told"):
+        made.switches = self.switches.copy()
+        for name in ("stands", "sessions", "ends", "sites_on", "packets", "looked", "carrying", "told"):
             setattr(made, name, getattr(self, name).copy())
         return made
 
+    @property
+    def on(self) -> dict[str, bool]:
+        """Which circuits are on."""
+        return self.switches.on
+
     def begin(self, event: Event) -> None:
         """What an event does by itself, before its entries."""
-        if not event.is_idle():
+        if not self.is_idle(event.is_idle(), event.kind, event.words):
             self.apply(event.kind, event.words)
+
+    def is_idle(self, is_told: bool, kind: str, words: Sequence[Any]) -> bool:
+        """Whether an event does not apply, behind which the report tells first that something is idle, or does not. In a report of
+        `discover` that may be a line of the script by itself: so it is where the event applies by all that was told before."""
+        return is_told and not self.applies(kind, words)
+
+    def applies(self, kind: str, words: Sequence[Any]) -> bool:
+        """Whether an event that may tell nothing applies, by all that was told before. It is not asked of a frame and of a ping, which
+        tell something where they apply."""
+        if kind == "connect":
+            a, b = words
+            return (a, b) in self.pipes and not {(a, b), (b, a)} & self.stands
+        if kind == "lose":
+            return tuple(words) in self.stands
+        if kind == "deliver":
+            a, b, _ = words
+            return (b, a) in self.stands and ((a, b) not in self.stands or self.pipes[a, b].octets() > 0)
+        if kind in ("arrive", "drop", "again"):
+            return words[0] in self.packets
+        return bool(self.switches.applies(kind, words))
 
     def apply(self, kind: str, words: Sequence[Any]) -> None:
         """What an event does that applies, before its entries."""
-        if kind in ("connect", "deliver", "restart"):
-            self.calm.clear()
+        if kind in ("connect", "deliver", "restart", "lose"):
+            self.looked.clear()
         if kind == "connect":
             a, b = words
             for way in ((a, b), (b, a)):
@@ -95,13 +124,16 @@ class Network:
         elif kind == "deliver":
             pipe = self.pipes.get((words[0], words[1]))
             self.heard += 0 if pipe is None else pipe.deliver(int(words[2]))
+        elif kind == "lose":
+            self.close((words[0], words[1]))
         elif kind == "restart":
             self.restart(words[0])
         elif kind in ("arrive", "drop"):
             self.packets.pop(words[0], None)
-        elif kind == "circuit":
-            self.on[words[0]] = words[1] == "on"
-            self.sites_on.clear()
+        else:
+            self.switches.turn(kind, words)
+            if kind == "circuit":
+                self.sites_on.clear()
 
     def restart(self, edge: str) -> None:
         """An edge forgets its sessions and the ends of its wires, and tells nothing."""
@@ -147,7 +179,7 @@ class Network:
         elif kind == "aged":
             self.packets.pop(words[0], None)
         if kind in ("said", "session", "wire"):
-            self.calm.clear()
+            self.looked.clear()
 
     def do(self, event: Event) -> None:
         """A whole event."""
@@ -186,35 +218,59 @@ class Network:
         """Whether the sessions of two edges are up at both ends."""
         return self.sessions[a, b] == self.sessions.get((b, a)) == "Operational"
 
+    def is_connected(self, a: str, b: str) -> bool:
+        """Whether both ends of a connection stand."""
+        return {(a, b), (b, a)} <= self.stands
+
     def is_settled(self, a: str, b: str) -> bool:
         """Whether neither end of a connection stands, or both and nothing is on its way or held between them."""
         ways = ((a, b), (b, a))
         standing = sum(way in self.stands for way in ways)
         return standing == 0 or standing == 2 and all(self.pipes[way].is_drained() for way in ways)
 
+    def unsettled(self, service: str) -> list[tuple[str, str]]:
+        """The neighbours of a service between which something of LDP is on its way or held, or one end of the connection is gone and the
+        other one stands; none where the service is quiet."""
+        key = "unsettled", service
+        if key not in self.looked:
+            self.looked[key] = [(a, b) for a, b in self.shape.of[service].pairs if not self.is_settled(a, b)]
+        found: list[tuple[str, str]] = self.looked[key]
+        return found
+
     def is_calm(self, service: str) -> bool:
-        """Whether a service is calm: nothing of LDP is on its way between its edges, each two core edges have a mesh wire that
-        carries frames, and each spoke edge exactly one spoke that does."""
-        if service not in self.calm:
-            self.calm[service] = self.looks_calm(service)
-        return self.calm[service]
+        """Whether a service is calm: it is quiet, each two core edges have a mesh wire that carries frames, and each spoke edge exactly
+        one spoke that does."""
+        key = "calm", service
+        if key not in self.looked:
+            self.looked[key] = self.looks_calm(service)
+        return bool(self.looked[key])
 
     def looks_calm(self, service: str) -> bool:
-        """The same, looked at anew, by what both terminal edges last told of each wire, as `audit` does: where both say that it is up,
-        so are the sessions along it in every run of `replay`, and the report of another implementation may tell of none."""
-        shape = self.shape.of[service]
-        carrying = [wire for wire in shape.wires if all(self.ends[edge, wire.name] == UP for edge in wire.ends())]
+        """The same, looked at anew."""
+        shape, carrying = self.shape.of[service], self.up_wires(service)
         meshed = {frozenset(wire.ends()) for wire in carrying if wire.kind == "mesh"}
         spokes = [wire.path[0] for wire in carrying if wire.kind == "spoke"]
         return (
-            all(self.is_settled(a, b) for a, b in shape.pairs)
+            not self.unsettled(service)
             and all(pair in meshed for pair in shape.mesh)
             and all(spokes.count(edge) == 1 for edge in shape.spoke_edges)
         )
 
+    def up_wires(self, service: str) -> list[Wire]:
+        """The wires of a service that carry frames where it is quiet, by what both terminal edges last told of each, as `audit` sees it:
+        where both say that a wire is up, so are the sessions along it in every run, and the report of another implementation may tell of
+        none."""
+        return [wire for wire in self.shape.of[service].wires if all(self.ends[edge, wire.name] == UP for edge in wire.ends())]
+
+    def tells_sessions(self, service: str) -> bool:
+        """Whether of each two neighbours of a service that are connected both say that their session is up, and no wire is up over others:
+        so it is in every run where the service is quiet, and not in a report that leaves LDP out."""
+        sessions = all(self.is_up(a, b) for a, b in self.shape.of[service].pairs if self.is_connected(a, b))
+        return sessions and all(self.carries(wire) for wire in self.up_wires(service))
+
     def joined(self, service: str) -> set[Any]:
         """The pairs of edges of a service between which a flooded frame finds its way by the wires that carried frames when they were
-        looked at last: it does not go back on the wire by which it came, and from no mesh wire to another one. Each pair is a set of
+        looked at last, be the service quiet or not: it does not go back on the wire by which it came, and from no mesh wire to another one. Each pair is a set of
         two edges."""
         ways: Ways = {}
         for wire in self.shape.of[service].wires:
@@ -223,7 +279,7 @@ class Network:
                 ways.setdefault(a, []).append((b, wire))
                 ways.setdefault(b, []).append((a, wire))
         pair = self.shape.pair
-        return {pair[start, edge] for start in ways for edge in reached(ways, start) if edge != start}
+        return {pair[start, edge] for start in ways for edge in walked(ways, start) if edge != start}
 
 
 class ShapeOfService:
@@ -234,7 +290,8 @@ class ShapeOfService:
         self.circuits = plan.circuits_of(service)
         self.spoke_edges = plan.spoke_edges(service)
         cores = plan.core_edges(service)
-        self.mesh = [frozenset((a, b)) for place, a in enumerate(cores) for b in cores[place + 1 :]]
+        self.core_pairs = [(a, b) for place, a in enumerate(cores) for b in cores[place + 1 :]]
+        self.mesh = [frozenset(pair) for pair in self.core_pairs]
 
 
 class Shape:
@@ -243,18 +300,18 @@ class Shape:
     def __init__(self, plan: Plan) -> None:
         self.pairs = plan.pairs()
         self.pair = {(a, b): frozenset((a, b)) for a in plan.edges for b in plan.edges if a != b}
-        self.over = {frozenset(pair): [] for pair in self.pairs}
+        self.over: dict[frozenset[str], list[str]] = {frozenset(pair): [] for pair in self.pairs}
         for wire in plan.wires.values():
             for pair in wire.segments():
                 self.over[frozenset(pair)].append(wire.name)
         self.of = {service: ShapeOfService(plan, service) for service in plan.services}
 
 
-def reached(ways: Ways, start: str) -> set[str]:
-    """The edges that a frame reaches from one. How it goes on depends on the edge and on the wire by which it came; of several mesh
+def walked(ways: Ways, start: str) -> set[str]:
+    """The edges to which a frame finds its way from one. How it goes on depends on the edge and on the wire by which it came; of several mesh
     wires by which it comes to an edge the first one counts for all, since from each it goes by the same spokes."""
-    found, open_ends = {start}, [(start, None)]
-    seen = set()
+    found, seen = {start}, set()
+    open_ends: list[tuple[str, Wire | None]] = [(start, None)]
     while open_ends:
         edge, came = open_ends.pop()
         by_mesh = came is not None and came.kind == "mesh"

@@ -91,8 +91,8 @@ class Event:
         self.entries: list[Entry] = []
 
     def is_idle(self) -> bool:
-        """Whether it did not apply, and changed nothing. Where a line of a script is idle behind it, the line stands by itself; but
-        behind one that told nothing it is taken for the event's, unless the event always applies."""
+        """Whether it did not apply, and changed nothing, as far as its entries tell. In a report of `discover` that may be a line of the
+        script by itself, which `Network.is_idle` tells apart; here it is taken for the event's, unless the event always applies."""
         return bool(self.entries) and self.entries[0].kind == "idle" and self.kind not in ALWAYS
 
 
@@ -243,7 +243,7 @@ def events_of(words: Words, lines: Iterable[tuple[int, str]], first: int, front:
                 raise words.fault(line, f"{kind!r} is no event")
             events.append(Event(len(events) + first, line, kind, words.read(line, words.events[kind], text), text))
         elif kind in words.entries and (events or front is not None and kind in NOTES):
-            entries = events[-1].entries if events else front
+            entries = front if front is not None and not events else events[-1].entries
             entries.append(Entry(line, kind, words.read(line, words.entries[kind], text)))
         else:
             raise words.fault(line, f"{kind!r} is no entry that may stand here")

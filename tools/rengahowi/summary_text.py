@@ -2,6 +2,9 @@
 
 from __future__ import annotations
 
+from .frames import some_pairs
+from .sound import text_of as sound_text
+
 TYPE_CHECKING = False
 if TYPE_CHECKING:
     from collections.abc import Iterable
@@ -77,18 +80,27 @@ def wires(rows: list[dict[str, Any]]) -> list[Any]:
 
 
 def service(row: dict[str, Any]) -> list[Any]:
-    """A service, and which sites lost each other."""
-    calm = "calm" if row["calm"] else "not calm"
+    """A service, how it stands, and which sites lost each other."""
     lines = []
     for lost in row["lost"]:
         until = f"event {lost['to']['event']} ({lost['to']['words']})" if lost["to"] else "the end"
         start = f"event {lost['from']['event']} ({lost['from']['words']})"
         lines.append(f"  from {start} to {until}, over {counted(lost['deliveries'], 'delivery', 'deliveries')}:")
         lines += [f"    {names(part['sites'])} lost {names(part['lost'])}" for part in lost["sites"]]
-    head = f"Service {row['service']}: {counted(len(row['sites']), 'site')}, {calm} at the end; "
+    head = f"Service {row['service']}: {counted(len(row['sites']), 'site')}, {standing(row)} at the end; "
     never = [f"  {names(part['sites'])} never had {names(part['lost'])}" for part in row["never"]]
     spokes = [f"  of the {left['spokes']} spokes of {left['edge']}, {left['usable'] or 'none'} can be used" for left in row["redundancy"]]
-    return [head + ("sites that lost each other" if lines else "no sites lost each other"), *cut(lines), *cut(never), *cut(spokes)]
+    why_not = [f"  not sound: {sound_text(why)}" for why in row["why_not_sound"]]
+    why_not += ["  sound and at rest, and not calm: an edge has no label left"] if row["no_label"] else []
+    told = "sites that lost each other" if lines else "no sites lost each other"
+    return [head + told, *cut(lines), *cut(never), *cut(why_not), *cut(spokes)]
+
+
+def standing(row: dict[str, Any]) -> str:
+    """Whether a service is calm and sound, and whether it can change still by what is on its way."""
+    pairs = row["unsettled"]
+    calm, sound = "calm" if row["calm"] else "not calm", "sound" if row["sound"] else "not sound"
+    return f"{calm}, {sound}, {f'LDP on its way ({some_pairs(pairs)})' if pairs else 'nothing on its way'}"
 
 
 def frames(rows: list[dict[str, Any]]) -> list[str]:
@@ -121,8 +133,15 @@ def flooded_line(row: dict[str, Any]) -> str:
         parts.append(f"NOT SERVED {names(row['missed'])}")
     if row["twice"]:
         parts.append(f"TWICE {names(row['twice'])}")
-    promise = ("promised" if row["kept"] else "PROMISED, and not so") if row["promised"] else f"not promised: {'; '.join(row['why_not_promised'])}"
-    return f"{head(row)}: {', '.join(parts)}; {promise}"
+    return f"{head(row)}: {', '.join(parts)}; {promise(row)}"
+
+
+def promise(row: dict[str, Any]) -> str:
+    """What is promised of a flooded frame, and whether it was so."""
+    if not row["promised"]:
+        return f"not promised: {'; '.join(row['why_not_promised'])}"
+    where = "each other site" if row["calm"] else names(row["reached"])
+    return f"promised: at {where}" if row["kept"] else f"PROMISED: at {where}, and not so"
 
 
 def other_line(row: dict[str, Any]) -> str:

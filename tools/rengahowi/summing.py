@@ -3,6 +3,7 @@
 from __future__ import annotations
 
 from .network import UP
+from .sound import why_not_sound
 
 TYPE_CHECKING = False
 if TYPE_CHECKING:
@@ -15,7 +16,7 @@ if TYPE_CHECKING:
     from .plan import Plan, Wire
     from .report import Report
 
-# Over so many segments at most a flooded frame of a calm service serves each site.
+# Over so many segments at most a flooded frame of a quiet service serves each site that it reaches.
 MOST_SEGMENTS = 12
 
 
@@ -40,9 +41,9 @@ def sum_up(plan: Plan, run: Run, first: int = 1) -> dict[Any, Any]:
 def discovery(run: Run, first: int) -> dict[str, Any]:
     """What a script told of Hellos from an event on: how many were said, which connections were barred, and which adjacencies came up
     and ended, each with its line and the event that it stands behind (0 before the first one)."""
-    rows = {"hellos": 0, "barred": [], "adjacencies": []}
+    rows: dict[str, Any] = {"hellos": 0, "barred": [], "adjacencies": []}
     for number, line, (kind, *words) in run.notes:
-        place = {"event": number, "line": line}
+        place: dict[str, Any] = {"event": number, "line": line}
         if number < first and first > 1:
             continue
         if kind == "hello":
@@ -71,7 +72,7 @@ def session_row(run: Run, a: str, b: str) -> dict[Any, Any]:
 def wire_row(run: Run, wire: Wire) -> dict[str, Any]:
     """A wire, with what each terminal edge says of it; with both MTUs where these differ."""
     states = [run.network.ends[edge, wire.name] for edge in wire.ends()]
-    row = {"wire": wire.name, "service": wire.service, "class": wire.kind, "path": list(wire.path), "states": states}
+    row: dict[str, Any] = {"wire": wire.name, "service": wire.service, "class": wire.kind, "path": list(wire.path), "states": states}
     row["carries"], row["was_up"] = run.network.carries(wire), wire.name in run.ever_carried
     row["stands_by"] = stands_by(run.network, wire)
     if "Mtu" in states:
@@ -86,34 +87,37 @@ def stands_by(network: Network, wire: Wire) -> bool:
 
 
 def service_row(plan: Plan, run: Run, service: str, first: int) -> dict[Any, Any]:
-    """A service: its sites, whether it is calm at the end, which sites lost each other when, which never had each other, and the
-    spoke edges of which not all spokes can be used at the end."""
-    spans = {}
+    """A service: its sites; whether it is quiet, calm and sound at the end, and why not; which sites lost each other when, which never
+    had each other, and the spoke edges of which not all spokes can be used at the end."""
+    network, sites = run.network, run.network.sites(service)
+    edges = [edge for edge in plan.edges if edge in {plan.circuits[site]["edge"] for site in sites}]
+    pairs = {frozenset((a, b)) for place, a in enumerate(edges) for b in edges[place + 1 :]} - run.ever_joined[service]
+    why_not = why_not_sound(network, service)
+    return {
+        "service": service,
+        "sites": list(sites),
+        "calm": network.is_calm(service),
+        "sound": not why_not,
+        "why_not_sound": why_not,
+        "unsettled": [list(pair) for pair in network.unsettled(service)],
+        "no_label": not why_not and not network.is_calm(service) and not network.unsettled(service) and network.tells_sessions(service),
+        "lost": list(lost_rows(plan, run, service, first)),
+        "never": parted(plan, sites, pairs),
+        "redundancy": [row for row in spokes_left(plan, network, service) if row["usable"] < row["spokes"]],
+    }
+
+
+def lost_rows(plan: Plan, run: Run, service: str, first: int) -> Iterator[dict[str, Any]]:
+    """Which sites of a service lost each other from an event on: those that were on when they did."""
+    spans: dict[Any, Any] = {}
     for pair, span in run.spans[service]:
         if span.start.number >= first:
             times = (span.start, span.end, span.deliveries)
-            spans.setdefault(times, []).append(pair)
-    lost = [
-        {
-            "from": told(start),
-            "to": told(end),
-            "deliveries": deliveries,
-            "sites": parted(plan, service, pairs),
-        }
-        for (start, end, deliveries), pairs in sorted(spans.items(), key=in_order)
-    ]
-    sites = [site for site in plan.circuits_of(service) if run.network.on[site]]
-    lost = [row for row in lost if row["sites"]]
-    edges = [edge for edge in plan.edges if edge in {plan.circuits[site]["edge"] for site in plan.circuits_of(service)}]
-    pairs = {frozenset((a, b)) for place, a in enumerate(edges) for b in edges[place + 1 :]} - run.ever_joined[service]
-    return {
-        "service": service,
-        "sites": sites,
-        "calm": run.network.is_calm(service),
-        "lost": lost,
-        "never": parted(plan, service, pairs),
-        "redundancy": [row for row in spokes_left(plan, run.network, service) if row["usable"] < row["spokes"]],
-    }
+            spans.setdefault(times, (span.sites, []))[1].append(pair)
+    for (start, end, deliveries), (sites, pairs) in sorted(spans.items(), key=in_order):
+        found = parted(plan, sites, pairs)
+        if found:
+            yield {"from": told(start), "to": told(end), "deliveries": deliveries, "sites": found}
 
 
 def in_order(row: tuple[Any, Any]) -> tuple[Any, ...]:
@@ -137,17 +141,17 @@ def told(event: Moment | None) -> dict[Any, Any] | None:
     return None if event is None else {"event": event.number, "words": event.text}
 
 
-def parted(plan: Plan, service: str, pairs: Any) -> list[dict[str, Any]]:
-    """The sites of edges that lost each other: lists of sites, each with those that they lost. The edge that lost most comes
-    first."""
-    at = {}
-    for site in plan.circuits_of(service):
+def parted(plan: Plan, sites: Iterable[str], pairs: Any) -> list[dict[str, Any]]:
+    """Of these sites those of edges that lost each other: lists of sites, each with those that they lost. The edge that lost most
+    comes first."""
+    at: dict[str, list[str]] = {}
+    for site in sites:
         at.setdefault(plan.circuits[site]["edge"], []).append(site)
     pairs = [pair for pair in pairs if all(edge in at for edge in pair)]
     rows = []
     while pairs:
         counts = count(edge for pair in pairs for edge in pair)
-        edge = max((name for name in plan.edges if name in counts), key=counts.get)
+        edge = max((name for name in plan.edges if name in counts), key=counts.__getitem__)
         lost = [other for other in plan.edges if other != edge and frozenset((edge, other)) in pairs]
         rows.append({"sites": at[edge], "lost": [site for other in lost for site in at[other]]})
         pairs = [pair for pair in pairs if edge not in pair]
@@ -156,7 +160,7 @@ def parted(plan: Plan, service: str, pairs: Any) -> list[dict[str, Any]]:
 
 def count(found: Iterable[Any]) -> dict[Any, int]:
     """How often each thing is there."""
-    counts = {}
+    counts: dict[Any, int] = {}
     for one in found:
         counts[one] = counts.get(one, 0) + 1
     return counts
@@ -174,9 +178,11 @@ def frame_row(frame: Frame) -> dict[Any, Any]:
         "to": frame.to,
         "flooded": flooded,
         "calm": frame.calm,
+        "quiet": not frame.unsettled,
         "promised": not why_not,
         "why_not_promised": why_not,
-        "kept": None if why_not else not (missed or twice or frame.elsewhere()) and hops <= MOST_SEGMENTS,
+        "reached": None if why_not else list(frame.reached),
+        "kept": None if why_not else frame.is_as_reached() and hops <= MOST_SEGMENTS,
         "served": dict(frame.left),
         "missed": missed if flooded else [],
         "twice": twice,

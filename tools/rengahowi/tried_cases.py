@@ -39,6 +39,12 @@ BY_HAND = [
     ("session-lost", "lose b c", "lose b c", [({"cb"}, {"cc", "cy"}, "mended", 3)], {"cb": 2, "cc": 2, "cy": 1}),
     (*MOVES, "priority x xb 9", [({"cx"}, {"ca", "cc"}, "failed", 1), ({"cx"}, {"ca", "cc"}, "mended", 1)], {}),
 ]
+# Whom the sites reach in these cases while the failure stands and all is settled, where that is not each other site.
+SETTLED_BY_HAND = {
+    "frames-cross": [(["lyon", "metz"], []), (["paris"], [])],
+    "session-lost": [(["cb"], ["ca", "cd", "cx"]), (["cc"], ["ca", "cd", "cx", "cy"]), (["cy"], ["ca", "cc", "cd", "cx"])],
+    "spoke-moves": [],
+}
 
 
 def what_ifs(folder: pathlib.Path, gone: set[str]) -> Iterator[Any]:
@@ -69,6 +75,8 @@ def by_hand() -> Iterator[Any]:
         right = [(Counter(frozenset((a, b)) for a in left for b in others), *end) for left, others, *end in lost]
         yield compare(f"what-if {name}, {case}", seen, right)
         yield compare(f"what-if {name}, {case}, never", (row["never"].get("failed", {}), row["twice"], row["calm"]), (never, {}, True))
+        parts = [(part["sites"], part["reached"]) for one in row["settled"] for part in one["apart"]]
+        yield compare(f"what-if {name}, {case}, once settled", (parts, row["as_settled"]), (SETTLED_BY_HAND[name], True))
         yield compare(f"what-if {name}, before", found["before"], {"never": {}, "twice": {}})
 
 
@@ -85,19 +93,20 @@ def as_summed(name: str, begin: str) -> Iterator[Any]:
     base = Base(plan, path.read_text(encoding="utf-8"), events)
     wrong = []
     with tempfile.TemporaryDirectory() as folder:
-        for case in cases_of(plan, base.network, base.report.events, KINDS):
-            reading, _ = base.try_case(case, folder)
+        for case in cases_of(plan, base.network, KINDS):
+            reading, _ = base.try_case(case, pathlib.Path(folder))
             row = reading.row()
-            report = pathlib.Path(folder, "case.txt")
-            report.write_bytes(base.replay(pathlib.Path(folder, "case.toml"), base.events_of(case, row["given_rounds"])))
-            report = read_report(report, plan)
-            summary = sum_up(plan, follow(plan, report), event_from(report, case.failure[0]))
-            here = sum((pairs_in(one) for one in row["lost"]), Counter())
-            there = sum((pairs_in(one) for service in summary["services"] for one in service["lost"]), Counter())
+            path = pathlib.Path(folder, "case.txt")
+            path.write_bytes(base.replay(pathlib.Path(folder, "case.toml"), base.events_of(case, row["given_rounds"])))
+            report = read_report(path, plan)
+            summary = sum_up(plan, follow(plan, report), event_from(report, case.failure[0]) or 1)
+            here: Counter[Any] = sum((pairs_in(one) for one in row["lost"]), Counter())
+            there: Counter[Any] = sum((pairs_in(one) for service in summary["services"] for one in service["lost"]), Counter())
             twice = sum(len(frame["twice"]) for frame in summary["frames"])
             missed = sum(len(frame["missed"]) for frame in summary["frames"] if frame["flooded"] and frame["to"] == "ff" * 6)
             seen = sum(sum(sites.values()) for sites in row["never"].values())
-            if here != there or twice != sum(sum(sites.values()) for sites in row["twice"].values()) or missed > seen:
+            kept = row["as_settled"] and all(frame["kept"] for frame in summary["frames"] if frame["promised"])
+            if not kept or here != there or twice != sum(sum(sites.values()) for sites in row["twice"].values()) or missed > seen:
                 wrong.append(case.name)
     yield compare(f"what-if {name}, beside summary", wrong, [])
 
@@ -170,7 +179,7 @@ def paged(folder: pathlib.Path) -> Iterator[Any]:
     words = [EXAMPLES / "spoke-moves.toml", "--from", MOVES[1], "--kinds", "session,priority", "--page", page]
     status, _, fault = tool("what-if", *words)
     scripts = xml.etree.ElementTree.fromstring(page.read_text(encoding="utf-8")).iter(f"{HTML}script")
-    data = json.loads(next(script.text for script in scripts if script.get("id") == "data"))
+    data = json.loads(next(script.text or "" for script in scripts if script.get("id") == "data"))
     yield compare("what-if --page", (status, fault, len(data["cases"]), len(data["ladders"])), (0, "", 7, 7))
     yield compare("what-if --page, the frame of a cell", data["ladders"][3]["frames"].keys() >= {"ca", "cx"}, True)
     python = "/usr/bin/python3"

@@ -10,7 +10,7 @@ if TYPE_CHECKING:
 
 # So many names of sites stand in a row.
 MOST = 3
-HEAD = ("case", "who lost whom", "rounds", "never", "twice", "calm")
+HEAD = ("case", "who lost whom", "rounds", "once settled", "never", "twice", "calm")
 
 
 def text_of(found: dict[str, Any]) -> str:
@@ -33,7 +33,7 @@ def before(found: dict[str, Any]) -> list[Any]:
 
 def columns(row: dict[str, Any]) -> tuple[Any, ...]:
     """The columns of a case."""
-    return row["case"], lost(row["lost"]), rounds(row), frames(row, "never"), frames(row, "twice"), "yes" if row["calm"] else "NO"
+    return row["case"], lost(row["lost"]), rounds(row), settled(row), frames(row, "never"), frames(row, "twice"), "yes" if row["calm"] else "NO"
 
 
 def lost(rows: list[dict[str, Any]]) -> str:
@@ -57,6 +57,17 @@ def rounds(row: dict[str, Any]) -> str:
     return ", ".join(([str(max(alone) or "<1")] if alone else []) + ([f"mended + {max(mended)}"] if mended else []))
 
 
+def settled(row: dict[str, Any]) -> str:
+    """Whom the settled failure reaches: the first of the sites that reach fewest, and how many more do not reach each other one."""
+    parts = [part for one in row["settled"] for part in one["apart"]]
+    if not parts:
+        return "-" if row["as_settled"] else "OTHERWISE"
+    first = min(parts, key=lambda part: len(part["reached"]))
+    more = sum(len(part["sites"]) for part in parts) - len(first["sites"])
+    text = f"{some(first['sites'])} reach{'es' if len(first['sites']) == 1 else ''} {some(first['reached']) or 'nobody'}"
+    return text + (f"; {counted(more, 'more site')}" if more else "") + ("" if row["as_settled"] else " OTHERWISE")
+
+
 def frames(row: dict[str, Any], kind: str) -> str:
     """How many copies of frames never came, or came too often, phase by phase, and in how many orders they did."""
     found = [f"{sum(sites.values())} {phase}" for phase, sites in row[kind].items()]
@@ -76,6 +87,9 @@ def endings(found: dict[str, Any]) -> Any:
         f"{counted(len(rows), 'case')}: in {len(apart)} sites are split while the failure stands, in {len(some_rounds)} for some rounds",
         f"A frame arrives twice in {counted(len(twice), 'case')}; {counted(sum(not row['calm'] for row in rows), 'case')} not calm again",
     ]
+    otherwise = sum(not row["as_settled"] for row in rows)
+    if otherwise:
+        lines.append(f"In {counted(otherwise, 'case')} a broadcast went otherwise than by the wires that are sound and used: an edge has no label left")
     if not all(row["whole"] for row in rows):
         lines.append("Of the cases that are not calm again, some had more to deliver than a scenario has room for")
     if found["left"]:
