@@ -1,5 +1,5 @@
 -- The labels of an edge: which one is given next, and what becomes of a number that an end owns no longer (RFC 3032 section 2.1, RFC 5036
--- section 2.6.3). An end owns its label from the advertisement until it is idle; then the number waits for the neighbour of the segment.
+-- section 3.5.7). An end owns its label from the advertisement until it is idle; then the number waits for the neighbour of the segment.
 -- A new connection with it begins the rest of the number, and after 64 ticks it is free.
 use Rattle.std.specs.Prelude.{◌==◌, ℕ, List, [], ◌∷◌, Option, Some, None, if◌then◌else◌}
 use Rattle.net_base.specs.declared.plan.places.EdgeId.{EdgeId}

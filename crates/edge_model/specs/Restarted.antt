@@ -28,7 +28,7 @@ pub record RestartsKeepSettings : Type 0 where
   pub priorities : (edge : EdgeState) (wire : ℕ) → (restarted edge).priority wire ≡ edge.priority wire
   pub ticks : (edge : EdgeState) → (restarted edge).ticks ≡ edge.ticks
   -- the number that is given next stays, and the numbers that its ends own are kept as those of a label space that restarts: they wait
-  -- for their neighbours, until then none is given again (RFC 5036 section 2.6.3)
+  -- for their neighbours, until then none is given again (RFC 5036 section 3.5.7)
   pub labels : (edge : EdgeState) (room : ℕ) → AreDistinctLabels (label_owners edge) → AreUnkept edge.kept (label_owners edge)
       → label_numbers room (restarted edge) ≡ emptied (label_numbers room edge)
   -- addresses, connections, ends and choices are forgotten, and of each end that it advertises no label counts as told

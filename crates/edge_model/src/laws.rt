@@ -86,7 +86,7 @@ pub fn withdrawals_go_on()
 {}
 
 /// A restart keeps what was set at an edge: which circuits and wires are on, failure bits and priority numbers; and its ticks, and its
-/// labels, as a label space keeps them that restarts (RFC 5036 section 2.6.3). It forgets addresses, connections and ends, chooses no spoke, and
+/// labels, as a label space keeps them that restarts (RFC 5036 section 3.5.7). It forgets addresses, connections and ends, chooses no spoke, and
 /// numbers messages and pings from 1 again.
 #[tactic(auto, using(crate::proofs::RestartedLemmas::restarts_keep_settings))]
 pub fn restarts_keep_settings()

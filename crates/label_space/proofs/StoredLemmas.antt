@@ -386,7 +386,7 @@ pub long_kept : (ws rs : List Kept) (fs : List (Reverse ℕ)) → length (kept_o
 long_kept ws rs fs = omega (arith, long_in_order (stored ws rs fs), length-append ws (rs ++ map freed_number fs), length-append rs (map freed_number fs), long_numbers fs)
 
 pub held_more : (new : Kept) (a now b c : ℕ) (ws vs rs : List Kept) (fs : List (Reverse ℕ)) → IsHeldKept a b c ws rs fs → kept_at new.label (kept_of ws rs fs) ≡ None → waits new ≡ true
-    → length (kept_of ws rs fs) < most_kept → vs ≡ ws ++ new ∷ [] → a ≤ now
+    → length (kept_of ws rs fs) < most_kept → vs ≡ ws ++ new ∷ [] → now ≡ a
     → IsHeldKept now b c vs rs fs
 held_more new a now b c ws vs rs fs held none wait more is room =
     let whole : kept_of vs rs fs ≡ put_in new (kept_of ws rs fs) = ap (λ (l : List Kept). kept_of l rs fs) is ∙ one_more new ws rs fs none held.rising in
@@ -403,7 +403,7 @@ held_more new a now b c ws vs rs fs held none wait more is room =
     }
 
 pub held_met : (peer : EdgeId) (a now b more c : ℕ) (ws vs rs ss : List Kept) (fs : List (Reverse ℕ)) → IsHeldKept a b c ws rs fs → vs ≡ filter (λ k. not (rests k)) (met peer ws) → ss
-    ≡ rs ++ filter rests (met peer ws) → now ≡ a → b ≤ more
+    ≡ rs ++ filter rests (met peer ws) → now ≡ a → more ≡ b
     → IsHeldKept now more c vs ss fs
 held_met peer a now b more c ws vs rs ss fs held is also same_room room =
     let whole : kept_of vs ss fs ≡ met peer (kept_of ws rs fs) = rw (is, also) (met_kept peer ws rs fs held.rest held.rising) in

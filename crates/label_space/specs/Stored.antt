@@ -38,11 +38,11 @@ abbrev pub waits : Kept → Bool
 waits k = waits_state k.state
 
 -- what a label space holds of them: no number is stored twice, each stands among those that do what it does, the least that is free is
--- on top of the heap, and there is memory for as many as are ever kept
+-- on top of the heap, and there is memory for as many as are ever kept: of the two lists exactly so much, of the heap at least
 pub record IsHeldKept (waiting_room resting_room free_room : ℕ) (waiting resting : List Kept) (free : List (Reverse ℕ)) : Type 0 where
   pub few : length waiting + (length resting + length free) ≤ most_kept
-  pub may_wait : most_kept ≤ waiting_room
-  pub may_rest : most_kept ≤ resting_room
+  pub may_wait : waiting_room ≡ most_kept
+  pub may_rest : resting_room ≡ most_kept
   pub may_be_free : most_kept ≤ free_room
   pub rising : AreRisingBy label_of 0 (kept_of waiting resting free)
   pub wait : AllByRecursion (λ k. waits k ≡ true) waiting

@@ -66,7 +66,7 @@ impl KeptLabels {
         if self.len() < MOST_KEPT {
             let state = KeptState::Waits(peer);
             // The memory for it was taken where this was opened.
-            self.waiting.push(Kept { label, state }).unwrap();
+            self.waiting.push_reserved(Kept { label, state });
         }
     }
 
@@ -140,11 +140,11 @@ fn rests(one: &Kept) -> bool
 fn add_resting(resting: &mut Vec<Kept>, kept: &[Kept])
     requires { length resting.old.items + length kept.now ≤ vec_capacity resting.old }
     ensures items { resting.new.items ≡ resting.old.items ++ filter rests kept.now }
-    ensures room { vec_capacity resting.old ≤ vec_capacity resting.new }
+    ensures room { vec_capacity resting.new ≡ vec_capacity resting.old }
 {
     for one in kept {
         if rests(one) {
-            resting.push(*one).unwrap();
+            resting.push_reserved(*one);
         }
     }
 }

@@ -1,4 +1,4 @@
-//! The labels that an edge hands out for its pseudowires, and whose they are (RFC 3032 section 2.1, RFC 5036 section 2.6.3).
+//! The labels that an edge hands out for its pseudowires, and whose they are (RFC 3032 section 2.1, RFC 5036 section 3.5.7).
 //!
 //! A label space is opened for one edge. It gives its numbers in rising order, over restarts too. A number that was freed is
 //! kept, and may be given again once nothing can name it any more: after a new connection with the neighbour that it was given

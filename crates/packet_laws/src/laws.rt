@@ -4,8 +4,9 @@ ghost use Rattle.packet_laws.specs.Laws.{RunsAreIsolated, RunsKeepEchoesApart, R
 /// Each packet under way, whatever was restarted, withdrawn or repeated since it was sent, carries the inner frame of a frame
 /// that entered in the service of its wire with its origin, as RFC 4448 section 4 packs it; or it belongs to no frame and is a ping
 /// of its wire or the answer to one, in the control channel that the terminal edge picks from which it comes, with the TTL that is
-/// left at its place of the way (RFC 5085 section 5, RFC 6073 section 7.4). And whoever owns its label at the edge to which it goes
-/// is the end of that wire.
+/// left at its place of the way (RFC 5085 section 5, RFC 6073 section 7.4). And its label was given before by the edge to which it goes,
+/// and is not free to be given again: whoever owns it there is the end of that wire; where it waits, it waits for the edge that sent
+/// the packet; and where it rests, it has rested for no longer than the packet is old.
 #[tactic(auto, using(crate::proofs::RunLemmas::runs_keep_packet_rule))]
 pub fn runs_keep_packet_rule()
     ensures { RunsKeepPacketRule }

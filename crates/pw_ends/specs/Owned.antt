@@ -41,8 +41,8 @@ without_owned_one (Some label) owned = without_owned label owned
 abbrev pub AreRising : List OwnedLabel → Type 0
 AreRising labels = AreRisingBy label_in 0 labels
 
--- the labels rise, and keep within the room that was reserved
+-- the labels rise, and keep within their room, which is what was reserved
 pub record IsOwnedList (room reserved : ℕ) (labels : List OwnedLabel) : Type 0 where
   pub within : length labels ≤ room
-  pub has_room : room ≤ reserved
+  pub has_room : room ≡ reserved
   pub rise : AreRising labels

@@ -27,7 +27,7 @@ use std::alloc::Global;
 use std::marker::Model;
 
 /// The pseudowire ends of one edge by slots, in the order of the plan's wires and of the segments of each, and the labels
-/// that they own (RFC 8077 section 6, RFC 5036 section 2.6.3). A slot is a place in that order, counted from 0. All memory
+/// that they own (RFC 8077 section 6, RFC 5036 section 3.5.7). A slot is a place in that order, counted from 0. All memory
 /// is taken where they are opened. Contracts see lists, and by `seen_ends` a map from wires and neighbours.
 #[derive(Drop)]
 pub struct PwEnds {
@@ -205,7 +205,7 @@ impl PwEnds {
     }
 
     /// The labels that the ends own, each with the segment and the side of its end, the number that is given next, and the numbers
-    /// that are kept to be given again (RFC 5036 section 2.6.3).
+    /// that are kept to be given again (RFC 5036 section 3.5.7).
     pub fn labels(&self) -> &LabelSpace
         ensures labels { result.now ≡ self.now.labels }
         ensures owners { (label : ℕ) → owner_of label result.now.owners ≡ option_map (λ place. (segment_of place, place.side)) (find (λ place. owns_label label (end_there self.now place)) self.now.places) }

@@ -93,7 +93,8 @@ pub record KeepsPromises (plan : Plan) (events : List Event) : Type 0 where
   pub split : Split plan (run plan events).entries
   -- whatever befell it and the network since it was sent, each packet under way carries the inner frame of a frame that entered
   -- in the service of its wire, or is a ping of that wire or the answer to one, in the control channel that both terminal edges pick;
-  -- and whoever owns its label where it goes is the end of that wire
+  -- and whoever owns its label where it goes is the end of that wire; a label that is kept there waits for the sender, or has rested for
+  -- no longer than the packet is old, and is not free
   pub packets : CarryFrames plan events
   -- a ping and the answer to one are never taken for a frame where they arrive
   pub echoes : Throughout (KeepEchoesApart plan) plan events
@@ -140,7 +141,8 @@ pub record KeepsPromises (plan : Plan) (events : List Event) : Type 0 where
   pub stand : Throughout (StandThroughDeliveries plan) plan events
   pub rest : Throughout (AreQuietAtRest plan) plan events
   pub calm : Throughout (AreCalmWhereSound plan) plan events
-  -- wherever a label is named it was given before, and whoever owns it is the end that it is named with
+  -- wherever a label is named it was given before, and whoever owns it is the end that it is named with; one that is kept waits for the
+  -- neighbour of that end, and so neither rests nor is free
   pub labels : Throughout (KeepsLabelRule plan) plan events
   -- wherever a content is told it is the one that the plan has told there, but for its status
   pub contents : Throughout (KeepsToldRule plan) plan events

@@ -6,4 +6,4 @@ use Rattle.label_space.proofs.kept_labels.add_resting.Given as goal
 abbrev pub invariant-loop-one : goal.invariant-loop-one
 invariant-loop-one l =
     (l.resting.items ++ filter rests (drop l.one-index l.kept) ≡ l.fn.resting.items ++ filter rests l.kept)
-    × (length l.resting.items + length l.kept ≤ vec_capacity l.resting + l.one-index) × (vec_capacity l.fn.resting ≤ vec_capacity l.resting)
+    × (length l.resting.items + length l.kept ≤ vec_capacity l.resting + l.one-index) × (vec_capacity l.resting ≡ vec_capacity l.fn.resting)
