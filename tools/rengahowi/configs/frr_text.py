@@ -2,13 +2,13 @@
 
 from __future__ import annotations
 
-from .keys import OFFER
+from ..keys import OFFER
 
 TYPE_CHECKING = False
 if TYPE_CHECKING:
     from typing import Any
 
-    from .plan import Plan
+    from ..plan import Plan
 
 IMAGE = "quay.io/frrouting/frr:9.1.0"
 DAEMONS = "zebra=yes\nospfd=yes\nldpd=yes\nvtysh_enable=yes\n"
@@ -22,8 +22,9 @@ class FrrText:
     """The configurations of a plan, and what they leave out."""
 
     def __init__(self, plan: Plan) -> None:
-        self.plan, self.left_out = plan, []
-        self.neighbours = {edge: [] for edge in plan.edges}
+        self.plan = plan
+        self.left_out: list[str] = []
+        self.neighbours: dict[str, list[str]] = {edge: [] for edge in plan.edges}
         for a, b in plan.pairs():
             self.neighbours[a].append(b)
             self.neighbours[b].append(a)

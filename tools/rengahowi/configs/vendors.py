@@ -1,0 +1,33 @@
+"""The vendors whose configurations are read, and how a text is told to be of one."""
+
+from __future__ import annotations
+
+from ..command import Fault
+from .frr import Frr
+from .ios_xr import IosXr
+
+TYPE_CHECKING = False
+if TYPE_CHECKING:
+    from .reading import Reader
+
+READERS: dict[str, type[Reader]] = {reader.vendor: reader for reader in (IosXr, Frr)}
+# What stands in the configurations of one vendor, and how much it tells. A line begins behind each `\n`.
+SIGNS: dict[str, list[tuple[str, int]]] = {
+    "ios-xr": [("\n!! IOS XR", 9), ("\nl2vpn\n", 3), ("\n bridge group ", 3), ("\n  bridge-domain ", 2), ("\n xconnect group ", 2), (" l2transport\n", 2), ("\n pw-class ", 1), ("\n ipv4 address ", 1), ("/0/0/0", 1), ("\n   vfi ", 2), ("\n   neighbor ", 1)],
+    "frr": [("\nfrr version ", 9), ("\nfrr defaults ", 9), (" type vpls\n", 3), ("\n member pseudowire mpw", 3), ("\n neighbor lsr-id ", 3), ("\nmpls ldp\n router-id ", 1), ("\n  neighbor lsr-id ", 3)],
+}
+
+
+def vendor_of(path: str, text: str) -> str:
+    """The vendor of a text: the one of whom most signs stand in it."""
+    lines = "\n" + text.replace("\r\n", "\n")
+    scores = {vendor: sum(weight for sign, weight in signs if sign in lines) for vendor, signs in SIGNS.items()}
+    best = max(scores, key=lambda vendor: scores[vendor])
+    if scores[best] == 0:
+        raise Fault(f"{path}, line 1: whose configuration this is cannot be told: name it by --vendor, one of {', '.join(READERS)}")
+    return best
+
+
+def read(path: str, text: str, vendor: str | None = None) -> Reader:
+    """The configuration of a file. Whose it is is told by its text, where nobody says."""
+    return READERS[vendor or vendor_of(path, text)](path, text)
