@@ -16,17 +16,11 @@ from typing import NamedTuple
 TOP = pathlib.Path(__file__).resolve().parent.parent
 sys.path.insert(0, str(TOP / "tools"))
 from rengahowi import writing  # noqa: E402
+from rengahowi.program import measured, require_proved as require_proved  # noqa: E402
 
-# The proved program itself. `bin/vplsnet` looks for newer sources before each run, which would be measured too.
-PROGRAM = str(TOP / "crates" / "vplsnet_program" / "out" / "vplsnet_program")
+# The program itself. `bin/vplsnet` looks for newer sources before each run, which would be measured too.
+PROGRAM = measured()
 TRIES = 5
-
-
-def build() -> None:
-    """Proves and builds the program where it has to, before the first time is taken. Standard error tells how far that is."""
-    made = subprocess.run([TOP / "bin" / "vplsnet", "decode", os.devnull], stdin=subprocess.DEVNULL, check=False)
-    if made.returncode != 0:
-        sys.exit(f"{pathlib.Path(sys.argv[0]).name}: there is no program to measure")
 
 
 def program_of(name: str) -> str:
@@ -35,14 +29,10 @@ def program_of(name: str) -> str:
 
 
 def build_beside(name: str, words: Sequence[str]) -> None:
-    """Proves and builds the program of a crate, by a run with these words, where it is not there or a source is newer."""
-    program = pathlib.Path(program_of(name))
-    sources = (path for part in ("src", "specs", "proofs") for path in TOP.glob(f"crates/*/{part}/**/*"))
-    if not os.access(program, os.X_OK) or any(path.stat().st_mtime > program.stat().st_mtime for path in sources):
-        crate = TOP / "crates" / name
-        made = subprocess.run(["rt", "run", "--", *words], cwd=crate, stdin=subprocess.DEVNULL, stdout=subprocess.DEVNULL, check=False)
-        if made.returncode != 0:
-            sys.exit(f"{pathlib.Path(sys.argv[0]).name}: there is no program to measure")
+    """Has `rt` prove and build the program of a crate, by a run with these words; where it has done so, it only runs it."""
+    made = subprocess.run(["rt", "run", "--", *words], cwd=TOP / "crates" / name, stdin=subprocess.DEVNULL, stdout=subprocess.DEVNULL, check=False)
+    if made.returncode != 0:
+        sys.exit(f"{pathlib.Path(sys.argv[0]).name}: there is no program to measure")
 
 
 def full_mesh(count: int) -> str:

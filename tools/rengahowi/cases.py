@@ -11,7 +11,7 @@ from .command import Fault
 from .failures import Case
 from .frames import follow
 from .probing import Probes
-from .program import PROGRAM
+from . import program
 from .report import read_report
 from .splicing import Spliced
 
@@ -87,10 +87,7 @@ def without_end(octets: bytes) -> bytes:
 
 def replayed(path: str | pathlib.Path) -> bytes:
     """The report of a scenario, which has to end well."""
-    try:
-        done = subprocess.run([PROGRAM, "replay", path], stdin=subprocess.DEVNULL, capture_output=True, check=False)
-    except FileNotFoundError:
-        raise Fault("the program is not built yet: bin/vplsnet builds it") from None
+    done = subprocess.run([program.path(), "replay", path], stdin=subprocess.DEVNULL, capture_output=True, check=False)
     if done.returncode != 0:
         raise Fault(done.stderr.decode(errors="replace").strip() or f"the program ended with status {done.returncode}")
     return done.stdout

@@ -1,45 +1,119 @@
-"""The proved program, where it was built already: a tool starts no proof."""
+"""The program, proved or not yet: which of both there is, what a tool says of it, and what it makes of a stream."""
 
 from __future__ import annotations
 
+import atexit
+import functools
+import os
 import pathlib
 import subprocess
+import sys
 import tempfile
+from typing import NamedTuple
 
-from .command import Fault, say
+from .command import Fault, name, say
 
 TYPE_CHECKING = False
 if TYPE_CHECKING:
     from collections.abc import Iterable
 
 TOP = pathlib.Path(__file__).resolve().parent.parent.parent
-PROGRAM = TOP / "crates" / "vplsnet_program" / "out" / "vplsnet_program"
+WHICH = TOP / "bin" / "which-program"
+PROVED = TOP / "crates" / "vplsnet_program" / "out" / "vplsnet_program"
+# What has an unproved program taken: its path, or any word for the one that bin/vplsnet builds.
+SWITCH = "VPLSNET_UNPROVED"
+# What stands on each page that was made with an unproved program.
+UNPROVED = "What this shows is not proved: it was made with an unproved program. bin/prove proves it."
+# How a check ends that was made with one.
+UNPROVED_STATUS = 4
 # `decode` takes at most 67,108,864 octets.
 MOST = 60_000_000
 
 
-def decoded(pdus: Iterable[bytes]) -> list[list[str]] | None:
-    """The lines of `decode` for each of these PDUs, without their places; None where the program was not built yet."""
-    if not PROGRAM.exists():
-        say("the program is not built yet (bin/vplsnet builds it), so LDP messages have no names here")
+class Program(NamedTuple):
+    """A program, and whether it is the proved one of the sources as they stand."""
+
+    path: str
+    is_proved: bool
+
+
+@functools.cache
+def found(*, build: bool) -> Program | None:
+    """The program that there is; where there is none an unproved one is built, or None is the answer. It tells on standard error where
+    what it makes is not proved."""
+    words = ["--for", str(os.getpid())] if build else ["--built"]
+    done = subprocess.run([WHICH, *words], stdin=subprocess.DEVNULL, stdout=subprocess.PIPE, check=False, text=True)
+    if done.returncode == 1 and not build:
         return None
-    found, part, size = [], [], 0
+    if done.returncode != 0:
+        raise Fault("there is no program")
+    kind, _, path = done.stdout.rstrip("\n").partition(" ")
+    program = Program(path, kind == "proved")
+    if not program.is_proved and SWITCH not in os.environ:
+        say("what this shows is not proved yet; bin/prove proves it")
+    return program
+
+
+def path() -> str:
+    """The path of the program, of which an unproved one is built where there is none."""
+    program = found(build=True)
+    assert program is not None
+    return program.path
+
+
+def is_proved() -> bool:
+    """Whether the proved program of the sources as they stand is there, and would be run."""
+    return subprocess.run([WHICH, "--proved"], stdin=subprocess.DEVNULL, stdout=subprocess.DEVNULL, check=False).returncode == 0
+
+
+def measured() -> str:
+    """The path of the program that a bench measures: of the proved one, be it there or not, but where the switch has another taken."""
+    return path() if os.environ.get(SWITCH) else str(PROVED)
+
+
+def require_proved() -> None:
+    """Has a check or a bench end here where the proved program is not there. With the switch it goes on with an unproved one, and so it
+    does where a source changes meanwhile; but it cannot end well then."""
+    if not is_proved():
+        if not os.environ.get(SWITCH):
+            raise SystemExit(f"{name()}: the program is not proved; bin/prove proves it ({SWITCH}=yes takes it as it is, and then nothing passes)")
+        path()
+    atexit.register(end_unproved)
+
+
+def end_unproved() -> None:
+    """Ends a check or a bench that was not made with the proved program, so that it does not pass."""
+    if is_proved():
+        return
+    sys.stdout.flush()
+    say("this was made with an unproved program, so it is no pass")
+    os._exit(UNPROVED_STATUS)
+
+
+def decoded(pdus: Iterable[bytes]) -> list[list[str]] | None:
+    """The lines of `decode` for each of these PDUs, without their places; None where there is no program yet."""
+    if found(build=False) is None:
+        say("there is no program yet (bin/vplsnet builds one), so LDP messages have no names here")
+        return None
+    lines: list[list[str]] = []
+    part: list[bytes] = []
+    size = 0
     for pdu in pdus:
         if size + len(pdu) > MOST:
-            found += decoded_part(part)
+            lines += decoded_part(part)
             part, size = [], 0
         part.append(pdu)
         size += len(pdu)
-    return found + decoded_part(part)
+    return lines + decoded_part(part)
 
 
-def decoded_part(pdus: Iterable[bytes]) -> list[list[str]]:
+def decoded_part(pdus: list[bytes]) -> list[list[str]]:
     """The same of PDUs that fit in one call."""
     places, place = {}, 0
     for number, pdu in enumerate(pdus):
         places[place] = number
         place += len(pdu)
-    lines = [[] for _ in pdus]
+    lines: list[list[str]] = [[] for _ in pdus]
     for text in decode(b"".join(pdus)):
         at, _, line = text.partition(" ")
         lines[places[int(at)]].append(line)
@@ -51,7 +125,7 @@ def decode(octets: bytes) -> list[str]:
     with tempfile.NamedTemporaryFile() as stream:
         stream.write(octets)
         stream.flush()
-        done = subprocess.run([PROGRAM, "decode", stream.name], stdin=subprocess.DEVNULL, capture_output=True, check=False)
+        done = subprocess.run([path(), "decode", stream.name], stdin=subprocess.DEVNULL, capture_output=True, check=False)
     if done.returncode not in (0, 6):
         raise Fault(f"decode ended with status {done.returncode}: {done.stderr.decode(errors='replace').strip()}")
     return done.stdout.decode().splitlines()

@@ -56,11 +56,6 @@ def comes(is_so: Callable[[], bool]) -> bool:
     return True
 
 
-def build() -> None:
-    """Has the program built before the first comparison; it tells how far that is."""
-    subprocess.run([PROGRAM, "decode", "/dev/null"], stdin=subprocess.DEVNULL, check=False)
-
-
 def missing() -> Any:
     """The external programs that are missing, each of which is named."""
     gone = {program for program in PACKAGES if shutil.which(program) is None}
