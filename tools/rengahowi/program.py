@@ -22,8 +22,8 @@ WHICH = TOP / "bin" / "which-program"
 PROVED = TOP / "crates" / "vplsnet_program" / "out" / "vplsnet_program"
 # What has an unproved program taken: its path, or any word for the one that bin/vplsnet builds.
 SWITCH = "VPLSNET_UNPROVED"
-# What stands on each page that was made with an unproved program.
-UNPROVED = "What this shows is not proved: it was made with an unproved program. bin/prove proves it."
+# What stands in the place of NOTE in each page that is made while the program is not proved.
+NOTE, UNPROVED = "@NOTE@", '<b style="color: #8f1d14">not proved: this was made with an unproved program</b>'
 # How a check ends that was made with one.
 UNPROVED_STATUS = 4
 # `decode` takes at most 67,108,864 octets.
@@ -64,6 +64,12 @@ def path() -> str:
 def is_proved() -> bool:
     """Whether the proved program of the sources as they stand is there, and would be run."""
     return subprocess.run([WHICH, "--proved"], stdin=subprocess.DEVNULL, stdout=subprocess.DEVNULL, check=False).returncode == 0
+
+
+def with_note(page: str) -> str:
+    """A page with the note at its place, or with nothing there where what it shows was made with the proved program, or with none."""
+    program = found(build=False)
+    return page.replace(NOTE, "" if program is None or program.is_proved else UNPROVED)
 
 
 def measured() -> str:

@@ -9,6 +9,7 @@ import zlib
 
 from .colours import of_service
 from .ladder_rows import Rows, columns, lanes
+from .program import with_note
 from .report import Words, events_of
 
 TYPE_CHECKING = False
@@ -95,8 +96,8 @@ def page(base: Base, found: dict[str, Any], ladders: list[Any]) -> str:
         "wires": {wire.name: wire.service for wire in plan.wires.values()},
         "ending": "",
     }
-    data = {**found, "colours": shared["services"], "ladders": ladders, "shared": shared, "page": LADDER.read_text(encoding="utf-8")}
-    text = PAGE.read_text(encoding="utf-8")
+    data = {**found, "colours": shared["services"], "ladders": ladders, "shared": shared, "page": with_note(LADDER.read_text(encoding="utf-8"))}
+    text = with_note(PAGE.read_text(encoding="utf-8"))
     title = found["scenario"].replace("&", "&amp;").replace("<", "&lt;")
     return text.replace("@TITLE@", title).replace("@DATA@", script(data))
 
