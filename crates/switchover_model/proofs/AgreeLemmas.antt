@@ -1,5 +1,6 @@
 -- What holds of an exchange holds of the network.
-use Rattle.std.proofs.Common.{◌≡◌, ◌==◌, ◌++◌, ◌∙◌, ℕ, Bool, true, false, List, [], ◌∷◌, Option, Some, None, slice_get, if◌then◌else◌, refl, sym, ap}
+use Rattle.std.proofs.Common.{◌≡◌, ◌==◌, ◌||◌, ◌++◌, ◌∙◌, not, ℕ, Bool, true, false, List, [], ◌∷◌, Option, Some, None, slice_get, if◌then◌else◌, refl, sym, ap, subst}
+use Rattle.std.specs.List.{AllByRecursion, list_any}
 use Rattle.std.proofs.lemmas.Bool.{eqb-true, eq-eqb}
 use Rattle.net_values.proofs.BoolLemmas.{true_clash}
 use Rattle.net_base.specs.declared.plan.Plan.{Plan}
@@ -14,15 +15,18 @@ use Rattle.pw_messages.specs.Sender.{platform_of}
 use Rattle.status_exchange.specs.Exchange.{EdgeStatuses, StatusMessage}
 use Rattle.status_exchange.specs.Laws as exchange_laws
 use Rattle.status_exchange.specs.Laws.{Agree, is_known_active, of_wire}
-use Rattle.status_exchange.specs.Line.{status_after}
-use Rattle.status_exchange.specs.Wish.{status_of}
+use Rattle.pw_status.specs.Status.{is_standby}
+use Rattle.status_exchange.specs.declared.wish.Wish.{Wish}
+use Rattle.status_exchange.specs.declared.wish.Wish.TheVariants.{Active, Standby, Ask}
+use Rattle.status_exchange.specs.Line.{some_active, some_asks, status_after}
+use Rattle.status_exchange.specs.Wish.{asks_switchover, is_ask, status_of}
 use Rattle.status_exchange.proofs.RunLemmas.{agree}
 use Rattle.status_exchange.proofs.StatusLemmas.{AllTold}
 use Rattle.independent_model.specs.Calls.{uses, uses_with}
 use Rattle.independent_model.specs.Tell.{notification}
 use Rattle.independent_model.specs.Wires.{is_between, wire_named, wiring}
-use Rattle.switchover_model.specs.After.{known_after_all}
-use Rattle.switchover_model.specs.Laws.{AgreesOn, HasSwitchTypes, IsAgreed, KnowsAfter, ScriptsAgree}
+use Rattle.switchover_model.specs.After.{TellsWire, known_after_all, some_status, some_tells}
+use Rattle.switchover_model.specs.Laws.{AgreesOn, HasAsked, HasSwitchTypes, IsAgreed, KnowsAfter, ScriptsAgree}
 use Rattle.switchover_model.specs.Network.{SwitchState, done_all, first_network, switch_flight, octets_held_by, switches_stand}
 use Rattle.switchover_model.proofs.FlightLemmas.{AreTold, message_in_row, messages_are, messages_told, octets_told, told_is}
 use Rattle.switchover_model.proofs.RunLemmas.{Follows, all_follow, first_follows, stands_is}
@@ -65,6 +69,45 @@ module _ (plan : Plan) (checked : IsChecked plan) (from to wire : ℕ) (row : Wi
           by true = again (Some (status_of t.wish))
           by false = again known
 
+  -- some status that was told of the wire passes a test
+  some_is : (test : PwStatus → Bool) (ts : List StatusMessage) → AllTold (λ k. is_between plan k from to) ts → AreTold plan ts
+      → some_tells row.pw_id test (messages_told plan from ts) ≡ list_any (λ (wish : Wish). test (status_of wish)) (of_wire wire ts)
+  some_is test [] all told = refl
+  some_is test (t ∷ ts) all told = row_at told.0.row told.0.row_is (some_is test ts all.1 told.1)
+    where
+      row_at : (other : WirePlan) → slice_get plan.wires t.wire ≡ Some other → some_tells row.pw_id test (messages_told plan from ts) ≡ list_any (λ (wish : Wish). test (status_of wish)) (of_wire wire ts)
+          → some_tells row.pw_id test (message_in_row from t (slice_get plan.wires t.wire) ++ messages_told plan from ts)
+          ≡ list_any (λ (wish : Wish). test (status_of wish)) (if t.wire == wire then t.wish ∷ of_wire wire ts else of_wire wire ts)
+      row_at other at again =
+          ap (λ (o : Option WirePlan). some_tells row.pw_id test (message_in_row from t o ++ messages_told plan from ts)) at
+          ∙ (ap (λ (b : Bool). some_status test (if b then Some (status_of t.wish) else None) || some_tells row.pw_id test (messages_told plan from ts)) (same_ids t.wire other at all.0) ∙ by (t.wire == wire))
+        where
+          by : (b : Bool) → some_status test (if b then Some (status_of t.wish) else None) || some_tells row.pw_id test (messages_told plan from ts)
+              ≡ list_any (λ (wish : Wish). test (status_of wish)) (if b then t.wish ∷ of_wire wire ts else of_wire wire ts)
+          by true = ap (λ (b : Bool). test (status_of t.wish) || b) again
+          by false = again
+
+-- the status of a wish asks where it does, and is without standby where it calls the wire active
+asks_is : (wishes : List Wish) → list_any (λ (wish : Wish). asks_switchover (status_of wish)) wishes ≡ some_asks wishes
+asks_is [] = refl
+asks_is (Active ∷ wishes) = asks_is wishes
+asks_is (Standby ∷ wishes) = asks_is wishes
+asks_is (Ask ∷ wishes) = refl
+
+active_is : (wishes : List Wish) → list_any (λ (wish : Wish). not (is_standby (status_of wish))) wishes ≡ some_active wishes
+active_is [] = refl
+active_is (Active ∷ wishes) = refl
+active_is (Standby ∷ wishes) = active_is wishes
+active_is (Ask ∷ wishes) = refl
+
+-- what was told are status Notifications of wires between the two
+told_wires : (plan : Plan) (from to : ℕ) (ts : List StatusMessage) → AllTold (λ k. is_between plan k from to) ts → AreTold plan ts → AllByRecursion (TellsWire plan from to) (messages_told plan from ts)
+told_wires plan from to [] all told = tt
+told_wires plan from to (t ∷ ts) all told = subst (λ (o : Option WirePlan). AllByRecursion (TellsWire plan from to) (message_in_row from t o ++ messages_told plan from ts)) (sym told.0.row_is) (
+  record { wire = t.wire; row = told.0.row; is = told.0.row_is; joined = all.0; wish = t.wish; id = t.id; small = told.0.small; told = refl },
+  told_wires plan from to ts all.1 told.1,
+)
+
 -- ---- nothing is on its way
 
 some_octets : (m : Message) (id : LdpId) (more : List ℕ) → written m id ++ more ≡ [] → ⊥
@@ -104,6 +147,7 @@ module _ (plan : Plan) (checked : IsChecked plan) (types : HasSwitchTypes plan) 
         record {
           messages = messages_told plan b (f.y.ways b a);
           octets = f.matches.octets b a ∙ messages_are plan b (f.y.ways b a);
+          told = told_wires plan b a (f.y.ways b a) (f.holds.ways b a).between (f.matches.told b a);
           knows = known_is plan checked b a wire row row_is back (f.y.ways b a) ((x.edges a).remote wire) (f.holds.ways b a).between (f.matches.told b a)
               ∙ rw (remote_is a, local_is b) end.after_way;
         }
@@ -122,6 +166,22 @@ module _ (plan : Plan) (checked : IsChecked plan) (types : HasSwitchTypes plan) 
           other_asks_not = rw (local_is b) all.other_asks_not;
         }
 
+    asked : switches_stand x a b ≡ true → is_ask ((x.edges a).local wire) ≡ true → HasAsked plan x a b wire row
+    asked there asks =
+        let end = (agreed.ends (stands_is plan checked types x f a b ∙ there)).0 in
+        record {
+          out = messages_told plan a (f.y.ways a b);
+          out_octets = f.matches.octets a b ∙ messages_are plan a (f.y.ways a b);
+          out_told = told_wires plan a b (f.y.ways a b) (f.holds.ways a b).between (f.matches.told a b);
+          back = messages_told plan b (f.y.ways b a);
+          back_octets = f.matches.octets b a ∙ messages_are plan b (f.y.ways b a);
+          back_told = told_wires plan b a (f.y.ways b a) (f.holds.ways b a).between (f.matches.told b a);
+          asked = rw (
+            some_is plan checked a b wire row row_is joined asks_switchover (f.y.ways a b) (f.holds.ways a b).between (f.matches.told a b) ∙ asks_is (of_wire wire (f.y.ways a b)),
+            some_is plan checked b a wire row row_is back (λ status. not (is_standby status)) (f.y.ways b a) (f.holds.ways b a).between (f.matches.told b a) ∙ active_is (of_wire wire (f.y.ways b a)),
+          ) (end.asked (ap is_ask (sym (local_is a)) ∙ asks));
+        }
+
     last_is : (f.y.edges a).remote wire ≡ status_after (of_wire wire (f.y.heard b a)) None
     last_is = (f.holds.pairs a b wire joined).near_last
 
@@ -129,10 +189,12 @@ module _ (plan : Plan) (checked : IsChecked plan) (types : HasSwitchTypes plan) 
     agrees = record {
       both = both;
       after = knows;
+      asked = asked;
       quiet = quiet;
       last = record {
         messages = messages_told plan b (f.y.heard b a);
         octets = f.matches.came b a ∙ ap (λ (l : List ℕ). l ++ octets_held_by ((x.edges a).connection b)) (messages_are plan b (f.y.heard b a));
+        told = told_wires plan b a (f.y.heard b a) (f.matches.past b a).1 (f.matches.past b a).0;
         knows = remote_is a ∙ (last_is ∙ sym (known_is plan checked b a wire row row_is back (f.y.heard b a) None (f.matches.past b a).1 (f.matches.past b a).0));
       };
       used = λ is.

@@ -11,9 +11,9 @@ use std::alloc::Global;
 use switchover_model::{SwitchEntry, SwitchLine};
 
 /// Does the lines of a script one after another, and answers what each of them has made of the network. The plan's numbers fit their
-/// types, and each line names edges and a wire of the plan. After the lines, of each wire between two edges both ends agree: once an edge
-/// has heard what is on its way to it, it knows what the other one calls the wire, and where nothing is on its way both use the wire
-/// exactly where both call it active, and none asks (RFC 6870 section 4).
+/// types, and each line names edges and a wire of the plan. After the lines, of each wire between two edges both ends agree: while the two
+/// are connected, once an edge has heard what is on its way to it, it knows what the other one calls the wire, and where nothing is on its
+/// way both use the wire exactly where both call it active, and none asks (RFC 6870 section 4).
 #[tactic(auto, using(crate::proofs::PlayLemmas::play_steps, switchover_model::proofs::AgreeLemmas::scripts_agree))]
 pub fn play(
     alloc: Global,

@@ -11,9 +11,10 @@ use Rattle.switchover_text.specs.Text.{switchover_report}
 use Rattle.vplsnet.specs.declared.outcome.Outcome.{Outcome}
 use Rattle.vplsnet.specs.declared.outcome.Outcome.TheVariants.{Done}
 
--- Behind each line both ends of each wire between two edges agree (RFC 6870 section 4): once an edge has heard what is on its way to it,
--- it knows what the other one calls the wire; where nothing is on its way, both use it exactly where both call it active, and none asks;
--- and an edge uses it only where it, and the last status that it heard on this connection, call it active.
+-- Behind each line both ends of each wire between two edges agree (RFC 6870 section 4): while the two are connected, what is on its way are
+-- status Notifications of their wires; once an edge has heard them, it knows what the other one calls the wire; an end that asks is not
+-- forgotten; and where nothing is on its way, both use the wire exactly where both call it active, and none asks. At every moment an edge
+-- uses it only where it, and the last status that it heard on this connection, call it active.
 abbrev pub AgreesBehindEach : Plan → List SwitchLine → Type 0
 AgreesBehindEach plan lines = (front behind : List SwitchLine) → lines ≡ front ++ behind
     → (a b wire : ℕ) (row : WirePlan) → slice_get plan.wires wire ≡ Some row → is_between plan wire a b ≡ true → AgreesOn plan (done_all plan front first_network) a b wire row
