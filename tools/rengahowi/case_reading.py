@@ -4,14 +4,15 @@ from __future__ import annotations
 
 from collections import Counter
 
+from .losses import Losses
+from .pace import Pace
 from .probing import PHASES
 from .reached import Reach, apart, reached
 from .sound import used_wires, why_not_sound
-from .summing import parted
+from .watching import Watch
 
 TYPE_CHECKING = False
 if TYPE_CHECKING:
-    from collections.abc import Iterator
     from typing import Any
 
     from .cases import Base
@@ -19,8 +20,10 @@ if TYPE_CHECKING:
     from .probing import Frame
 
 NOTHING: dict[str, int] = {}
-# The phase that is settled while the failure stands.
-SETTLED = "failed"
+# What may be wrong with a frame: it never comes to a site, comes there twice, or comes back to where it entered.
+KINDS = ("never", "twice", "back")
+# The phase that is settled while the failure stands, and those in which a failure stands: dead edges let no frame enter then.
+SETTLED, STANDS = "failed", ("at once", "failed")
 
 
 class Reading:
@@ -28,27 +31,31 @@ class Reading:
 
     def __init__(self, base: Base, case: Case, rounds: int, phase: Any) -> None:
         self.base, self.case, self.rounds = base, case, rounds
-        self.network, self.joined = base.network.copy(), dict(base.joined)
-        # The phase, and how many of its frames have come.
+        self.network, self.silence = base.network.copy(), case.silence(base.plan)
+        self.pace = Pace(base, self.silence, len(case.switches), rounds)
+        self.losses = Losses(base, self.network, self.silence)
+        self.watch = Watch(self.network, self.silence, base.timers) if self.silence else None
+        # The phase, how many of its frames have come, and the frames of each.
         self.phase, self.place = PHASES.index(phase), 0
-        self.found: dict[str, dict[str, Counter[str]]] = {name: {"never": Counter(), "twice": Counter()} for name in PHASES[self.phase :]}
+        self.frames_of = {name: base.probes.frames_in(name, self.silence.edges if name in STANDS else ()) for name in PHASES}
+        self.found: dict[str, dict[str, Counter[str]]] = {name: {kind: Counter() for kind in KINDS} for name in PHASES[self.phase :]}
         # The frame that is tried: the circuits that it is due at, and how often it left at each.
         self.frame: Frame | None = None
         self.due, self.left = NOTHING, dict[str, int]()
         # How many frames have come, and those that something is wrong with: their number, and the sites.
         self.frames = 0
         self.faulty: list[tuple[int, int, list[str], list[str]]] = []
-        # Events that switch something, deliveries since the last one of them, and the round in which one stands.
-        self.switches, self.delivered, self.round = 0, 0, 0
-        self.is_mended, self.is_late, self.last = False, False, {"failed": 0, "mended": 0}
-        # From whom to whom something of LDP was delivered.
+        # The last round of each stage in which something was delivered, and from whom to whom something of LDP was.
+        self.last = {"failed": 0, "mended": 0}
         self.ways: dict[str, dict[tuple[str, str], None]] = {"failed": {}, "mended": {}}
-        self.spans: list[Any] = []
-        self.open: dict[Any, Any] = {}
         # Whom the settled failure reaches, and whether each broadcast of that phase went so.
         self.reach: dict[str, Reach] = {}
         self.settled: list[dict[str, Any]] = []
         self.is_as_settled = True
+        # Which edges reached each other, and which wires carried frames, before the mending; and what was learned that leads astray then.
+        self.standing: tuple[dict[str, set[Any]], set[str]] = {}, set()
+        self.stale: list[dict[str, Any]] = []
+        self.losses.begin(self.pace.when(self.network))
 
     def read(self, lines: list[str]) -> Reading:
         """Reads the lines of the report. Of packets nothing is looked at but where their frames leave."""
@@ -56,7 +63,7 @@ class Reading:
         entries: list[str] = []
         for line in lines:
             start = line[:3]
-            if start in ("sen", "> a", "dro"):
+            if start in ("sen", "> a", "dro") or start == "> d" and line.startswith("> drop "):
                 continue
             if start == "lef":
                 circuit = line.split(" ", 2)[1]
@@ -77,25 +84,29 @@ class Reading:
         if event is not None:
             self.control(event, entries)
         self.end_frame()
+        if self.watch is not None:
+            self.watch.end()
         return self
 
     def next_frame(self) -> None:
-        """The next frame of a phase comes, or the first one of the next phase."""
-        frames = self.base.probes.frames[PHASES[self.phase]]
-        if self.place == len(frames):
+        """The next frame of a phase comes, or the first one of a later phase."""
+        frames = self.frames_of[PHASES[self.phase]]
+        while self.place == len(frames):
             self.phase, self.place = self.phase + 1, 0
-            frames = self.base.probes.frames[PHASES[self.phase]]
+            frames = self.frames_of[PHASES[self.phase]]
             if PHASES[self.phase] == SETTLED:
-                self.foretell()
+                self.settle()
         self.frame = frames[self.place]
         self.place, self.frames = self.place + 1, self.frames + 1
 
-    def foretell(self) -> None:
+    def settle(self) -> None:
         """Whom each site reaches while the failure stands, now that nothing is on its way: by the wires that are sound and used."""
+        if self.watch is not None:
+            self.watch.end()
         network, plan = self.network, self.base.plan
         for service in plan.services:
             reach = self.reach[service] = Reach(network.shape.of[service], used_wires(network, service))
-            rows = apart(plan, reach, network.sites(service))
+            rows = apart(plan, reach, [site for site in network.sites(service) if self.lives(site)])
             why_not = why_not_sound(network, service)
             if rows or why_not:
                 self.settled.append({"service": service, "sound": not why_not, "why_not_sound": why_not, "apart": rows})
@@ -107,9 +118,13 @@ class Reading:
             return
         if frame.to is None:
             sites = self.base.sites[frame.circuit]
-            self.due = {site: 1 for site in sites if on[site] and site != frame.circuit}
+            self.due = {site: 1 for site in sites if on[site] and site != frame.circuit and self.lives(site)}
         else:
-            self.due = {frame.to: 1} if on[frame.to] else NOTHING
+            self.due = {frame.to: 1} if on[frame.to] and self.lives(frame.to) else NOTHING
+
+    def lives(self, site: str) -> bool:
+        """Whether a site's edge is not dead."""
+        return self.pace.is_mended or self.base.plan.circuits[site]["edge"] not in self.silence.edges
 
     def end_frame(self) -> None:
         """What became of the frame before."""
@@ -118,11 +133,12 @@ class Reading:
             self.compare(frame.circuit)
         if frame is not None and self.left != self.due:
             never = [site for site in self.due if site not in self.left]
-            twice = [site for site, count in self.left.items() if count > 1 or site == frame.circuit]
-            self.found[PHASES[self.phase]]["never"].update(never)
-            self.found[PHASES[self.phase]]["twice"].update(twice)
-            if never or twice:
-                self.faulty.append((self.frames, self.phase, never, twice))
+            twice = [site for site, count in self.left.items() if count > 1 and site != frame.circuit]
+            back = [frame.circuit] if frame.circuit in self.left else []
+            for kind, sites in zip(KINDS, (never, twice, back)):
+                self.found[PHASES[self.phase]][kind].update(sites)
+            if never or twice or back:
+                self.faulty.append((self.frames, self.phase, never, twice + back))
         self.frame, self.due, self.left = None, NOTHING, {}
 
     def compare(self, circuit: str) -> None:
@@ -136,56 +152,62 @@ class Reading:
     def control(self, text: str, lines: list[str]) -> None:
         """An event of LDP or of a switch, with its entries."""
         words = text.split(" ")
-        self.count(words[0])
+        self.count(words)
         if lines == ["idle"]:
             return
-        if words[0] == "deliver":
-            self.last[self.stage()] = self.round
-            self.ways[self.stage()][words[1], words[2]] = None
+        self.begin(words)
         self.network.apply(words[0], words[1:])
         for line in lines:
             kind, *more = line.split(" ")
             self.network.tell(kind, more)
+            if kind in ("said", "session"):
+                self.say((more[0], more[1]))
+            if kind in ("session", "wire"):
+                self.pace.tell(more)
         if self.network.told:
-            self.look()
+            wires = self.network.changes()
+            self.network.change(wires)
+            self.losses.compare({wire.service for wire in wires}, self.pace.when(self.network, wires))
 
-    def count(self, kind: str) -> None:
-        """In which round an event stands: 0 is that of the failure, or of its mending."""
-        if kind == "deliver":
-            size = len(self.base.probes.round)
-            self.round = min(self.delivered // size, self.rounds) + 1
-            self.is_late = self.is_late or self.delivered >= size * self.rounds
-            self.delivered += 1
-            return
-        self.switches += 1
-        if self.switches == len(self.case.failure) + 1:
-            self.is_mended, self.delivered, self.round = True, 0, 0
+    def count(self, words: list[str]) -> None:
+        """In which tick and round an event stands."""
+        if words[0] == "deliver":
+            self.pace.deliver((words[1], words[2]))
+        elif words[0] == "tick":
+            self.pace.ticks()
+            if self.watch is not None:
+                self.watch.tick()
+        elif self.pace.switch():
+            if self.watch is not None:
+                self.watch.end()
+            self.standing = dict(self.losses.joined), self.network.carrying - self.losses.hidden
+            self.losses.mend(self.pace.when(self.network))
 
-    def stage(self) -> str:
-        """Whether the failure stands, or was mended."""
-        return "mended" if self.is_mended else "failed"
+    def begin(self, words: list[str]) -> None:
+        """An event that applies begins: who hears something, and whose end is gone."""
+        if words[0] == "deliver":
+            way, stage = (words[1], words[2]), self.pace.stage()
+            self.last[stage] = self.pace.round
+            self.ways[stage][way] = None
+            self.pace.hear(way)
+            if self.watch is not None:
+                self.watch.deliver(way)
+        elif words[0] == "lose":
+            self.say((words[1], words[2]))
+        elif words[0] == "restart":
+            for way in self.base.probes.ways:
+                if way[0] == words[1]:
+                    self.say(way)
 
-    def look(self) -> None:
-        """Which edges lost or found each other."""
-        for service in self.network.look():
-            joined, before = self.network.joined(service), self.joined[service]
-            now, sites = (self.stage(), self.round), tuple(self.network.sites(service))
-            for pair in before - joined:
-                self.open[service, pair] = now, sites
-            for pair in joined - before:
-                if (service, pair) in self.open:
-                    self.spans.append((service, pair, *self.open.pop((service, pair)), now))
-            self.joined[service] = joined
+    def say(self, way: tuple[str, str]) -> None:
+        """An edge says something to a neighbour, or what stands between them is at an end."""
+        self.pace.say(way)
+        if self.watch is not None:
+            self.watch.say(way)
 
-    def lost(self) -> Iterator[Any]:
-        """Which sites lost each other, when, and for how many rounds: those that were on when they did."""
-        together: dict[Any, list[Any]] = {}
-        for service, pair, start, sites, end in self.spans + [(*key, *opened, None) for key, opened in self.open.items()]:
-            together.setdefault((service, start, sites, end), []).append(pair)
-        for (service, start, sites, end), pairs in together.items():
-            found = parted(self.base.plan, sites, pairs)
-            if found:
-                yield {"service": service, "sites": found, "from": moment(start), "to": moment(end), "rounds": rounds_of(start, end)}
+    def gone(self) -> list[str]:
+        """The sites of dead edges, which are lost with them."""
+        return [name for name, row in self.base.plan.circuits.items() if row["edge"] in self.silence.edges and self.base.network.on[name]]
 
     def row(self) -> dict[Any, Any]:
         """All that is told of the case."""
@@ -195,25 +217,14 @@ class Reading:
             "kind": self.case.kind,
             "failure": list(self.case.failure),
             "mending": list(self.case.mending),
-            "lost": sorted(self.lost(), key=lambda row: (row["service"], str(row["from"]), str(row["to"]))),
-            "never": {name: dict(self.found[name]["never"]) for name in self.found if self.found[name]["never"]},
-            "twice": {name: dict(self.found[name]["twice"]) for name in self.found if self.found[name]["twice"]},
+            "lost": self.losses.rows(),
+            "gone": self.gone(),
+            "stale": self.stale,
+            **{kind: {name: dict(self.found[name][kind]) for name in self.found if self.found[name][kind]} for kind in KINDS},
             "rounds": self.last,
             "settled": self.settled,
             "as_settled": self.is_as_settled,
             "calm": all(name in calm for name in self.base.calm),
-            "whole": not self.is_late,
+            "whole": not self.pace.is_late,
             "given_rounds": self.rounds,
         }
-
-
-def moment(stage_and_round: Any) -> dict[Any, Any] | None:
-    """A moment of a case; None where it did not come."""
-    return None if stage_and_round is None else dict(zip(("stage", "round"), stage_and_round))
-
-
-def rounds_of(start: Any, end: Any) -> int | None:
-    """For how many rounds two edges lost each other: behind the mending, where that brought them together; None where nothing did."""
-    if end is None:
-        return None
-    return end[1] - start[1] if start[0] == end[0] else end[1]

@@ -5,29 +5,44 @@ from __future__ import annotations
 import pathlib
 import subprocess
 import tempfile
+from typing import NamedTuple
 
+from .arrivals import Arrivals
 from .case_reading import Reading
 from .command import Fault
+from .course import try_silent
 from .failures import Case
 from .frames import follow
 from .probing import Probes
 from . import program
 from .report import read_report
 from .splicing import Spliced
+from .stale import Tables
+from .timers import timers_behind
 
 TYPE_CHECKING = False
 if TYPE_CHECKING:
+    from .clock import Times
     from .plan import Plan
 
 # Rounds that are tried first, and behind a failure that takes more.
 FIRST_ROUNDS, MORE = 8, 4
 
 
+class Tried(NamedTuple):
+    """A case that was tried: what became of it, and its report's lines and its events, without those that all cases begin with."""
+
+    reading: Reading
+    lines: list[str]
+    events: list[str]
+
+
 class Base:
     """What all cases begin with: the plan, the network behind its set-up, and the report up to the failure."""
 
-    def __init__(self, plan: Plan, text: str, events: list[str]) -> None:
+    def __init__(self, plan: Plan, text: str, events: list[str], times: Times | None = None) -> None:
         self.plan, self.probes, self.events = plan, Probes(plan), list(events)
+        self.times, self.arrivals = times, Arrivals()
         self.spliced = Spliced(text)
         self.sites = {name: plan.circuits_of(row["service"]) for name, row in plan.circuits.items()}
         with tempfile.TemporaryDirectory(prefix="what-if-") as folder:
@@ -47,32 +62,48 @@ class Base:
         self.before = Reading(self, Case("", "", (), ()), 1, "before").read(self.front[len(front) :].decode().splitlines()).found["before"]
         self.packets_before = packets_in(before) - self.packets
         self.most_rounds = self.probes.most_rounds(len(self.events))
+        self.timers = timers_behind(plan, report, self.network)
+        self.ticks = octets.count(b"\n> tick")
+
+    def foretell(self) -> None:
+        """Looks at what each packet makes that the frames of the second phase come to, where nothing fails."""
+        with tempfile.TemporaryDirectory(prefix="what-if-") as folder:
+            lines = self.lines_of("no failure", folder, self.probes.phase("at once"))
+        self.arrivals.learn(lines, self.probes.numbers_in("at once"), self.packets + self.packets_before + 1)
 
     def replay(self, path: pathlib.Path, events: list[str]) -> bytes:
         """The report of the set-up with these events in the place of its own."""
         path.write_text(self.spliced.with_events(events), encoding="utf-8")
         return replayed(path)
 
-    def events_of(self, case: Case, rounds: int) -> list[str]:
-        """All events of a case."""
-        return [*self.probes.before(self.events), *self.probes.after(case, rounds)]
+    def all_events(self, events: list[str]) -> list[str]:
+        """These events behind the set-up and the first phase."""
+        return [*self.probes.before(self.events), *events]
 
-    def scenario_of(self, case: Case, rounds: int) -> str:
-        """The text of a case's scenario."""
-        return self.spliced.with_events(self.events_of(case, rounds))
-
-    def try_case(self, case: Case, folder: pathlib.Path, rounds: int = FIRST_ROUNDS) -> tuple[Reading, list[str]]:
-        """What became of a case; with more rounds, where these left something to deliver. And the report's lines behind those that
-        all cases begin with."""
-        rounds = min(rounds, self.most_rounds)
-        octets = self.replay(pathlib.Path(folder, "case.toml"), self.events_of(case, rounds))
+    def lines_of(self, name: str, folder: str | pathlib.Path, events: list[str]) -> list[str]:
+        """The report's lines of these events, behind those that all cases begin with."""
+        octets = self.replay(pathlib.Path(folder, "case.toml"), self.all_events(events))
         if not octets.startswith(self.front):
-            raise Fault(f"{case.name}: its report does not begin as the others do")
-        lines = octets[len(self.front) :].decode().splitlines()
+            raise Fault(f"{name}: its report does not begin as the others do")
+        return octets[len(self.front) :].decode().splitlines()
+
+    def tables_of(self, folder: str | pathlib.Path, events: list[str]) -> Tables:
+        """The tables of the network behind these events."""
+        path = pathlib.Path(folder, "tables.toml")
+        path.write_text(self.spliced.with_events(self.all_events(events)), encoding="utf-8")
+        return Tables(called("tables", path).decode())
+
+    def try_case(self, case: Case, folder: str | pathlib.Path, rounds: int = FIRST_ROUNDS) -> Tried:
+        """What became of a case; with more rounds, where these left something to deliver."""
+        rounds = min(rounds, self.most_rounds)
+        if case.silence(self.plan):
+            return Tried(*try_silent(self, case, folder, rounds))
+        events = self.probes.after(case, rounds)
+        lines = self.lines_of(case.name, folder, events)
         reading = Reading(self, case, rounds, "at once").read(lines)
-        if reading.is_late and rounds < self.most_rounds:
+        if reading.pace.is_late and rounds < self.most_rounds:
             return self.try_case(case, folder, rounds * MORE)
-        return reading, lines
+        return Tried(reading, lines, events)
 
 
 def packets_in(octets: bytes) -> int:
@@ -87,7 +118,12 @@ def without_end(octets: bytes) -> bytes:
 
 def replayed(path: str | pathlib.Path) -> bytes:
     """The report of a scenario, which has to end well."""
-    done = subprocess.run([program.path(), "replay", path], stdin=subprocess.DEVNULL, capture_output=True, check=False)
+    return called("replay", path)
+
+
+def called(word: str, path: str | pathlib.Path) -> bytes:
+    """What the program makes of a scenario, which has to end well."""
+    done = subprocess.run([program.path(), word, path], stdin=subprocess.DEVNULL, capture_output=True, check=False)
     if done.returncode != 0:
         raise Fault(done.stderr.decode(errors="replace").strip() or f"the program ended with status {done.returncode}")
     return done.stdout

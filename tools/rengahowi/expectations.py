@@ -46,11 +46,11 @@ def faults_of(expected: Any, row: dict[str, Any]) -> Iterator[Any]:
     """What a case does that is not expected."""
     orders = row.get("orders", {})
     if expected.get("split") is False and stays_split(row):
-        yield f"sites are split while it stands ({lost(row['lost'])}), and split = false"
+        yield f"sites are split while it stands ({lost(row)}), and split = false"
     late = [one for one in row["lost"] if one["rounds"] is None or one["rounds"] > expected.get("rounds", one["rounds"])]
     if "rounds" in expected and late:
         took = "for good" if late[0]["rounds"] is None else f"for {counted(late[0]['rounds'], 'round')}"
-        yield f"{lost(late)} {took}, and rounds = {expected['rounds']}"
+        yield f"{lost({**row, 'lost': late})} {took}, and rounds = {expected['rounds']}"
     for kind, text in (("twice", "a frame arrives twice"), ("never", "a frame never arrives")):
         if expected.get(kind) is False and (row[kind] or orders.get(kind)):
             yield f"{text}, and {kind} = false"

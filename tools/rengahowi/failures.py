@@ -5,6 +5,8 @@ from __future__ import annotations
 from itertools import combinations
 from typing import NamedTuple
 
+from .silence import Silence, is_silent, mending_of
+
 TYPE_CHECKING = False
 if TYPE_CHECKING:
     from collections.abc import Iterable, Iterator
@@ -14,23 +16,33 @@ if TYPE_CHECKING:
     from .plan import Plan, Wire
 
 # What fails, in the order of the table.
-KINDS = ["session", "wire", "restart", "circuit", "priority", "status"]
+KINDS = ["session", "wire", "restart", "circuit", "priority", "status", "silent"]
 # The number by which a spoke is the last one that is used, and the bit of a failure (RFC 4446 section 3.5: not forwarding).
 LAST, FAILED = 255, 1
 
 
 class Case(NamedTuple):
-    """A failure: its name, its kind, the events that bring it about, and those that mend it."""
+    """A failure: its name, its kind, the events and silences that bring it about, and the events that mend it."""
 
     name: str
     kind: str
     failure: tuple
     mending: tuple
 
+    @property
+    def switches(self) -> list[str]:
+        """What of the failure are events."""
+        return [text for text in self.failure if not is_silent(text)]
+
+    def silence(self, plan: Plan) -> Silence:
+        """What goes silent by it."""
+        return Silence(plan, filter(is_silent, self.failure))
+
 
 def cases_of(plan: Plan, network: Network, kinds: Iterable[str]) -> list[Any]:
     """The cases of these kinds: those that change something in the network that the set-up left."""
     makers = {"session": sessions, "wire": wires, "restart": restarts, "circuit": circuits, "priority": priorities, "status": statuses}
+    makers["silent"] = silences
     return [case for kind in KINDS if kind in kinds for case in makers[kind](plan, network)]
 
 
@@ -99,6 +111,16 @@ def statuses(plan: Plan, network: Network) -> Iterator[Any]:
             bits = network.switches.bits_of(edge, wire.name)
             if bits & FAILED == 0:
                 yield case("status", f"status {edge} {wire.name} {bits | FAILED}", f"status {edge} {wire.name} {bits}")
+
+
+def silences(plan: Plan, network: Network) -> Iterator[Case]:
+    """Each edge with a session dies without a word; each session that stands carries nothing any more, and then in one direction."""
+    up = [pair for pair in plan.pairs() if network.is_up(*pair)]
+    words = [f"silent {edge}" for edge in plan.edges if any(edge in pair for pair in up)]
+    words += [f"silent {a} {b}" for a, b in up]
+    words += [f"silent {a} to {b}" for pair in up for a, b in (pair, pair[::-1])]
+    for text in words:
+        yield case("silent", text, *mending_of(plan, text, up))
 
 
 def pairs_of(cases: Iterable[Case]) -> Iterator[Any]:

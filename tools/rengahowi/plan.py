@@ -128,8 +128,13 @@ def is_octet(part: Any) -> bool:
 
 def read_plan(path: str | pathlib.Path) -> Plan:
     """The plan of a scenario's file. What the program would refuse is not told apart here: `check-scenario` does that."""
+    return plan_of(text_of(path), path)
+
+
+def plan_of(text: str, path: str | pathlib.Path) -> Plan:
+    """The plan of the text of a scenario, which came from this file."""
     try:
-        plan = Plan(tables_of(text_of(path)))
+        plan = Plan(tables_of(text))
         known = set(plan.edges)
         whole = all(row["edge"] in known and row["service"] in plan.services for row in plan.circuits.values())
         if not whole or not all(len(wire.path) > 1 and known.issuperset(wire.path) for wire in plan.wires.values()):

@@ -9,7 +9,7 @@ from .keys import MOST_ROWS
 
 TYPE_CHECKING = False
 if TYPE_CHECKING:
-    from collections.abc import Iterator
+    from collections.abc import Collection, Iterator
     from typing import Any
 
     from .failures import Case
@@ -57,9 +57,21 @@ class Probes:
         to = BROADCAST if frame.to is None else self.station[frame.to]
         return to + self.station[frame.circuit] + (TAG % tag if tag else "") + TYPE
 
-    def phase(self, name: str) -> list[Any]:
+    def event(self, frame: Frame) -> str:
+        """The event by which a frame enters."""
+        return f"frame {frame.circuit} {self.octets(frame)}"
+
+    def numbers_in(self, name: str, dead: Collection[str] = ()) -> list[int]:
+        """The frames of a phase by their places, without those that would enter at edges that are dead."""
+        return [place for place, frame in enumerate(self.frames[name]) if self.plan.circuits[frame.circuit]["edge"] not in dead]
+
+    def frames_in(self, name: str, dead: Collection[str] = ()) -> list[Frame]:
+        """The same frames themselves."""
+        return [self.frames[name][place] for place in self.numbers_in(name, dead)]
+
+    def phase(self, name: str, dead: Collection[str] = ()) -> list[str]:
         """The events of a phase: each frame enters, and all its copies arrive before the next one."""
-        return [event for frame in self.frames[name] for event in (f"frame {frame.circuit} {self.octets(frame)}", f"flow {REST}")]
+        return [event for frame in self.frames_in(name, dead) for event in (self.event(frame), f"flow {REST}")]
 
     def before(self, events: list[str]) -> list[Any]:
         """The set-up, delivered to its end, and the first phase."""
@@ -75,8 +87,11 @@ class Probes:
 
     def after(self, case: Case, rounds: int) -> list[Any]:
         """A case's own events, behind those of `before`."""
-        events = [*case.failure, *self.phase("at once"), *self.rounds(rounds), *self.phase("failed")]
-        return [*events, *case.mending, *self.rounds(rounds), *self.phase("mended")]
+        return [*case.failure, *self.phase("at once"), *self.round * rounds, *self.tail(case, rounds)]
+
+    def tail(self, case: Case, rounds: int, dead: Collection[str] = ()) -> list[str]:
+        """What comes of a case once its failure was delivered: the phase in which it stands, its mending, and the last phase."""
+        return [*self.rest(), *self.phase("failed", dead), *case.mending, *self.rounds(rounds), *self.phase("mended")]
 
     def most_rounds(self, events: int) -> int:
         """How many rounds a scenario has room for, behind a set-up of so many events."""

@@ -2,6 +2,7 @@
 
 from __future__ import annotations
 
+from .durations import is_return, is_split, longest, of_row, parts, weight
 from .summary_text import counted
 
 TYPE_CHECKING = False
@@ -10,15 +11,30 @@ if TYPE_CHECKING:
 
 # So many names of sites stand in a row.
 MOST = 3
-HEAD = ("case", "who lost whom", "rounds", "once settled", "never", "twice", "calm")
 
 
 def text_of(found: dict[str, Any]) -> str:
     """The whole text."""
-    rows = [HEAD, *(columns(row) for row in found["cases"])]
-    wide = [max(len(row[place]) for row in rows) for place in range(len(HEAD) - 1)]
-    lines = ["  ".join([*(word.ljust(size) for word, size in zip(row, wide)), row[-1]]).rstrip() for row in rows]
-    return "\n".join([*before(found), *lines, "", *endings(found)]) + "\n"
+    rows = [heads(found["cases"], found.get("time")), *(columns(row, found) for row in found["cases"])]
+    return "\n".join([*before(found), *table(rows), "", *endings(found)]) + "\n"
+
+
+def table(rows: list[tuple[str, ...]]) -> list[str]:
+    """Rows of words below each other."""
+    wide = [max(len(row[place]) for row in rows) for place in range(len(rows[0]) - 1)]
+    return ["  ".join([*(word.ljust(size) for word, size in zip(row, wide)), row[-1]]).rstrip() for row in rows]
+
+
+def heads(rows: list[dict[str, Any]], time: Any) -> tuple[str, ...]:
+    """The heads of the columns that these cases have."""
+    has_ticks = any(one["ticks"] for row in rows for one in row["lost"])
+    length = ("time", "detection", "signalling") if time else ("ticks + rounds" if has_ticks else "rounds",)
+    return "case", "who lost whom", *length, "once settled", "never", "twice", *(["back"] if has_back(rows) else []), "calm"
+
+
+def has_back(rows: list[dict[str, Any]]) -> bool:
+    """Whether some frame came back to where it entered."""
+    return any(row["back"] or row.get("orders", {}).get("back") for row in rows)
 
 
 def before(found: dict[str, Any]) -> list[Any]:
@@ -31,30 +47,26 @@ def before(found: dict[str, Any]) -> list[Any]:
     return lines + [""] if lines else []
 
 
-def columns(row: dict[str, Any]) -> tuple[Any, ...]:
+def columns(row: dict[str, Any], found: dict[str, Any]) -> tuple[str, ...]:
     """The columns of a case."""
-    return row["case"], lost(row["lost"]), rounds(row), settled(row), frames(row, "never"), frames(row, "twice"), "yes" if row["calm"] else "NO"
+    one = longest(row)
+    length = (of_row(row), *(("-", "-") if one is None else parts(one))) if found.get("time") else (of_row(row),)
+    back = [frames(row, "back")] if has_back(found["cases"]) else []
+    return row["case"], lost(row), *length, settled(row), frames(row, "never"), frames(row, "twice"), *back, "yes" if row["calm"] else "NO"
 
 
-def lost(rows: list[dict[str, Any]]) -> str:
-    """Who lost whom: the first of those that lost most, and how many more sites there are."""
+def lost(row: dict[str, Any]) -> str:
+    """Who lost whom, of those that lost each other for longest the first that lost most, how many more sites there are, and the sites
+    that are lost with a dead edge."""
+    rows = [one for one in row["lost"] if not is_return(row, one)]
+    gone = f"{some(row['gone'])} with it" if row.get("gone") else ""
     if not rows:
-        return "-"
-    parts = [part for row in rows for part in row["sites"]]
-    first = max(parts, key=lambda part: len(part["lost"]))
-    sites = {site for part in parts for site in part["sites"] + part["lost"]} - {*first["sites"], *first["lost"]}
-    return f"{some(first['sites'])} lost {some(first['lost'])}" + (f"; {counted(len(sites), 'more site')}" if sites else "")
-
-
-def rounds(row: dict[str, Any]) -> str:
-    """For how long: rounds while the failure stands, and those behind its mending."""
-    if not row["lost"]:
-        return "-"
-    if any(one["to"] is None for one in row["lost"]):
-        return "for good"
-    alone = [one["rounds"] for one in row["lost"] if one["from"]["stage"] == one["to"]["stage"]]
-    mended = [one["rounds"] for one in row["lost"] if one["from"]["stage"] != one["to"]["stage"]]
-    return ", ".join(([str(max(alone) or "<1")] if alone else []) + ([f"mended + {max(mended)}"] if mended else []))
+        return gone or "-"
+    most = max(map(weight, rows))
+    first = max((part for one in rows if weight(one) == most for part in one["sites"]), key=lambda part: len(part["lost"]))
+    sites = {site for one in rows for part in one["sites"] for site in part["sites"] + part["lost"]} - {*first["sites"], *first["lost"]}
+    found = [f"{some(first['sites'])} lost {some(first['lost'])}", counted(len(sites), "more site") if sites else "", gone]
+    return "; ".join(text for text in found if text)
 
 
 def settled(row: dict[str, Any]) -> str:
@@ -81,11 +93,12 @@ def endings(found: dict[str, Any]) -> Any:
     """How many cases there are of each ending."""
     rows = found["cases"]
     apart = [row for row in rows if stays_split(row)]
-    some_rounds = [row for row in rows if row["lost"] and row not in apart]
-    twice = [row for row in rows if row["twice"] or row.get("orders", {}).get("twice")]
+    some_time = [row for row in rows if row["lost"] and row not in apart]
+    twice, back = ([row for row in rows if row[kind] or row.get("orders", {}).get(kind)] for kind in ("twice", "back"))
+    again = f"A frame arrives twice in {counted(len(twice), 'case')}" + (f", back where it entered in {len(back)}" if back else "")
     lines = [
-        f"{counted(len(rows), 'case')}: in {len(apart)} sites are split while the failure stands, in {len(some_rounds)} for some rounds",
-        f"A frame arrives twice in {counted(len(twice), 'case')}; {counted(sum(not row['calm'] for row in rows), 'case')} not calm again",
+        f"{counted(len(rows), 'case')}: in {len(apart)} sites are split while the failure stands, in {len(some_time)} for some time",
+        f"{again}; {counted(sum(not row['calm'] for row in rows), 'case')} not calm again",
     ]
     otherwise = sum(not row["as_settled"] for row in rows)
     if otherwise:
@@ -99,7 +112,7 @@ def endings(found: dict[str, Any]) -> Any:
 
 def stays_split(row: dict[str, Any]) -> bool:
     """Whether sites are apart as long as the failure stands."""
-    return any(one["from"]["stage"] == "failed" and (one["to"] is None or one["to"]["stage"] == "mended") for one in row["lost"])
+    return any(map(is_split, row["lost"]))
 
 
 def some(sites: Any) -> str:
@@ -110,12 +123,14 @@ def some(sites: Any) -> str:
 
 def differing(found: dict[str, Any], other: Any) -> str:
     """The cases that end otherwise in another design, and those that only one of the two has."""
-    here, there = ({row["case"]: columns(row)[1:] for row in one["cases"]} for one in (found, other))
+    both = {**found, "cases": found["cases"] + other["cases"]}
+    here, there = ({row["case"]: columns(row, both)[1:] for row in one["cases"]} for one in (found, other))
+    names_of = heads(both["cases"], found.get("time"))[1:]
     lines = []
     for name in [name for name in here if name in there and here[name] != there[name]]:
         lines.append(name)
         for of, row in ((found["scenario"], here[name]), (other["scenario"], there[name])):
-            lines.append(f"  {of}: " + ", ".join(f"{head} {word}" for head, word in zip(HEAD[1:], row)))
+            lines.append(f"  {of}: " + ", ".join(f"{head} {word}" for head, word in zip(names_of, row)))
     same = sum(here[name] == there.get(name) for name in here)
     lines.append(f"{counted(same, 'case')} alike, {counted(sum(name in there for name in here) - same, 'case')} not")
     for of, names, others in ((found["scenario"], here, there), (other["scenario"], there, here)):
