@@ -126,7 +126,7 @@ def try_silent(base: Base, case: Case, folder: str | pathlib.Path, rounds: int) 
         events = course.events()
         lines = base.lines_of(case.name, folder, events)
         reading = Reading(base, case, course.rounds, "at once").read(lines)
-        if course.is_right(reading.watch, lines, reading.pace.is_late):
+        if reading.watch is not None and course.is_right(reading.watch, lines, reading.pace.is_late):
             reading.stale = course.stale(folder, reading)
             return reading, lines, events
     raise Fault(f"{case.name}: what happens in it cannot be foretold")

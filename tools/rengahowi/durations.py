@@ -55,7 +55,7 @@ def parts(one: dict[str, Any]) -> tuple[str, str]:
 def longest(row: dict[str, Any]) -> dict[str, Any] | None:
     """The longest loss of a case, those of dead edges' own sites apart where there is another one; None where there is none."""
     found = [one for one in row["lost"] if not is_return(row, one)] or row["lost"]
-    return max(found, key=weight, default=None)
+    return max(found, key=weight) if found else None
 
 
 def of_row(row: dict[str, Any]) -> str:

@@ -47,7 +47,7 @@ def check(plan: Plan, text: str) -> None:
     edge, *more = text.split(" ")[1:] or [""]
     if edge not in plan.edges or len(more) not in (0, 1, 2) or len(more) == 2 and more[0] != "to":
         raise Fault(f"{text!r} is none of 'silent E', 'silent E P' and 'silent E to P'; the edges are {', '.join(list(plan.edges)[:20])}")
-    if more and {edge, more[-1]} not in map(set, plan.pairs()):
+    if more and not any({edge, more[-1]} == set(pair) for pair in plan.pairs()):
         raise Fault(f"{text!r}: no wire has {edge!r} and {more[-1]!r} next to each other on its path")
 
 

@@ -8,6 +8,7 @@ from typing import NamedTuple
 TYPE_CHECKING = False
 if TYPE_CHECKING:
     from collections.abc import Collection, Iterable
+    from typing import Any
 
     from .plan import Plan
 
@@ -62,10 +63,10 @@ def astray(plan: Plan, tables: Tables, edge: str, site: str, address: str, carry
     return edge
 
 
-def stale(plan: Plan, tables: Tables, stations: dict[str, str], joined: dict[str, set[frozenset[str]]], carrying: Collection[str]) -> list[dict[str, object]]:
+def stale(plan: Plan, tables: Tables, stations: dict[str, str], joined: dict[str, set[frozenset[str]]], carrying: Collection[str]) -> list[dict[str, Any]]:
     """Each edge and site between which wires carry frames, where what is learned leads another way: at which edge, and the tick at
     which that one forgets it by its age."""
-    found: list[dict[str, object]] = []
+    found: list[dict[str, Any]] = []
     for site, address in stations.items():
         row = plan.circuits[site]
         for edge in plan.edges:

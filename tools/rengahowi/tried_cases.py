@@ -31,6 +31,7 @@ if TYPE_CHECKING:
     from typing import Any
 
 EXAMPLES = TOP / "examples"
+LOUD = [kind for kind in KINDS if kind != "silent"]
 MOVES = ("spoke-moves", "priority x xb 5")
 # A scenario, its first event behind the set-up, a case, and its row as it is counted by hand: who lost whom, the rounds, and how many
 # frames never came to whom while the failure stood. Frames for known stations go round: to the next circuit of the service.
@@ -77,7 +78,7 @@ def by_hand() -> Iterator[Any]:
         yield compare(f"what-if {name}, {case}, never", (row["never"].get("failed", {}), row["twice"], row["calm"]), (never, {}, True))
         parts = [(part["sites"], part["reached"]) for one in row["settled"] for part in one["apart"]]
         yield compare(f"what-if {name}, {case}, once settled", (parts, row["as_settled"]), (SETTLED_BY_HAND[name], True))
-        yield compare(f"what-if {name}, before", found["before"], {"never": {}, "twice": {}})
+        yield compare(f"what-if {name}, before", found["before"], {"never": {}, "twice": {}, "back": {}})
 
 
 def pairs_in(row: dict[str, Any]) -> Any:
@@ -93,11 +94,11 @@ def as_summed(name: str, begin: str) -> Iterator[Any]:
     base = Base(plan, path.read_text(encoding="utf-8"), events)
     wrong = []
     with tempfile.TemporaryDirectory() as folder:
-        for case in cases_of(plan, base.network, KINDS):
-            reading, _ = base.try_case(case, pathlib.Path(folder))
-            row = reading.row()
+        for case in cases_of(plan, base.network, LOUD):
+            tried_case = base.try_case(case, folder)
+            row = tried_case.reading.row()
             path = pathlib.Path(folder, "case.txt")
-            path.write_bytes(base.replay(pathlib.Path(folder, "case.toml"), base.events_of(case, row["given_rounds"])))
+            path.write_bytes(base.replay(pathlib.Path(folder, "case.toml"), base.all_events(tried_case.events)))
             report = read_report(path, plan)
             summary = sum_up(plan, follow(plan, report), event_from(report, case.failure[0]) or 1)
             here: Counter[Any] = sum((pairs_in(one) for one in row["lost"]), Counter())
@@ -106,7 +107,7 @@ def as_summed(name: str, begin: str) -> Iterator[Any]:
             missed = sum(len(frame["missed"]) for frame in summary["frames"] if frame["flooded"] and frame["to"] == "ff" * 6)
             seen = sum(sum(sites.values()) for sites in row["never"].values())
             kept = row["as_settled"] and all(frame["kept"] for frame in summary["frames"] if frame["promised"])
-            if not kept or here != there or twice != sum(sum(sites.values()) for sites in row["twice"].values()) or missed > seen:
+            if not kept or here != there or twice != sum(sum(sites.values()) for kind in ("twice", "back") for sites in row[kind].values()) or missed > seen:
                 wrong.append(case.name)
     yield compare(f"what-if {name}, beside summary", wrong, [])
 
@@ -216,7 +217,7 @@ def interrupted(folder: pathlib.Path) -> Iterator[Any]:
         with open(pipe, "w", encoding="utf-8"):  # which waits until the tool reads there
             begun.interrupt()
         yield compare("what-if, interrupted in its set-up", begun.ended(), (130, ["what-if: interrupted: no case was tried"]))
-    with open(rows, "wb") as out, Begun(out, path, "--pairs", "--lines", "--jobs", "2", "--orders", "9") as begun:
+    with open(rows, "wb") as out, Begun(out, path, "--kinds", ",".join(LOUD), "--pairs", "--lines", "--jobs", "2", "--orders", "9") as begun:
         begun.wait_for("of 703 cases")
         begun.interrupt()
         ended, count = begun.ended(), rows.read_text(encoding="utf-8").count("\n")

@@ -29,7 +29,18 @@ def heads(rows: list[dict[str, Any]], time: Any) -> tuple[str, ...]:
     """The heads of the columns that these cases have."""
     has_ticks = any(one["ticks"] for row in rows for one in row["lost"])
     length = ("time", "detection", "signalling") if time else ("ticks + rounds" if has_ticks else "rounds",)
-    return "case", "who lost whom", *length, "once settled", "never", "twice", *(["back"] if has_back(rows) else []), "calm"
+    return "case", "who lost whom", *length, "once settled", "never", "twice", *(["back"] if has_back(rows) else []), *(["astray"] if has_stale(rows) else []), "calm"
+
+
+def has_stale(rows: list[dict[str, Any]]) -> bool:
+    """Whether something that was learned leads astray in some case."""
+    return any(row["stale"] for row in rows)
+
+
+def astray(row: dict[str, Any]) -> str:
+    """How many edges send frames for a station astray when all is delivered, and until which tick by the age of what they learned."""
+    rows = row["stale"]
+    return f"{len(rows)} until tick {max(one['tick'] for one in rows)}" if rows else "-"
 
 
 def has_back(rows: list[dict[str, Any]]) -> bool:
@@ -52,6 +63,7 @@ def columns(row: dict[str, Any], found: dict[str, Any]) -> tuple[str, ...]:
     one = longest(row)
     length = (of_row(row), *(("-", "-") if one is None else parts(one))) if found.get("time") else (of_row(row),)
     back = [frames(row, "back")] if has_back(found["cases"]) else []
+    back += [astray(row)] if has_stale(found["cases"]) else []
     return row["case"], lost(row), *length, settled(row), frames(row, "never"), frames(row, "twice"), *back, "yes" if row["calm"] else "NO"
 
 

@@ -1,0 +1,210 @@
+"""The checks of silent failures and of times in `tools/what-if`: counts by hand, and what `tools/summary` says of each case."""
+
+from __future__ import annotations
+
+import json
+import pathlib
+import tempfile
+from collections import Counter
+
+from .cases import Base
+from .failures import cases_of
+from .frames import follow
+from .plan import read_plan
+from .report import read_report
+from .summing import sum_up
+from .trying import TOP, compare, tool
+
+TYPE_CHECKING = False
+if TYPE_CHECKING:
+    from collections.abc import Iterator
+    from typing import Any
+
+    from .plan import Plan
+
+EXAMPLES = TOP / "examples"
+CROSS, MOVES, MESHED = ("frames-cross", "3"), ("spoke-moves", "11"), ("session-lost", "lose b c")
+WORDS = ("--kinds", "silent", "--tick", "1s", "--one-way", "10ms")
+# A plan and its cases as they are counted by hand. Of a case: who lost whom, from and until when (the stage, and the tick and round in
+# it), and the seconds that it takes; the sites of a dead edge; and how many frames never came to whom at once, and once all is
+# delivered. Each site says a broadcast, and a frame to the next circuit. Hold times are 180 ticks, and what is said takes 0.01 s: a
+# session comes up by four messages, of which the last two take each end's mapping with them, and a spoke is used by a fifth one.
+FAILED, MENDED = "failed", "mended"
+UNTIL_MENDED = ((FAILED, 0, 0), (MENDED, 0, 3), 0.04)
+BACK = ((MENDED, 0, 0), (MENDED, 0, 3), 0.04)
+MOVED = ((FAILED, 0, 0), (FAILED, 180, 1), 180.01)
+# The spoke edge goes back to its first spoke, and hears nobody between two messages.
+RETURNS = ((MENDED, 0, 3), (MENDED, 0, 3), 0.01)
+BY_HAND: list[tuple[tuple[str, str], str, list[Any], list[str], dict[str, int], dict[str, int]]] = [
+    (CROSS, "silent a", [({"paris"}, {"lyon", "metz"}, *BACK)], ["lyon", "metz"], {}, {}),
+    (CROSS, "silent b", [({"paris"}, {"lyon", "metz"}, *BACK)], ["paris"], {}, {}),
+    (CROSS, "silent a b", [({"paris"}, {"lyon", "metz"}, *UNTIL_MENDED)], [], {"paris": 3, "lyon": 2, "metz": 1}, {"paris": 3, "lyon": 2, "metz": 1}),
+    (CROSS, "silent a to b", [({"paris"}, {"lyon", "metz"}, *UNTIL_MENDED)], [], {"paris": 3}, {"paris": 3, "lyon": 2, "metz": 1}),
+    (CROSS, "silent b to a", [({"paris"}, {"lyon", "metz"}, *UNTIL_MENDED)], [], {"lyon": 2, "metz": 1}, {"paris": 3, "lyon": 2, "metz": 1}),
+    (MOVES, "silent a", [({"cx"}, {"cc"}, *MOVED), ({"ca"}, {"cc", "cx"}, *BACK), ({"cx"}, {"ca", "cc"}, *RETURNS)], ["ca"], {"cx": 2, "cc": 1}, {}),
+    (MOVES, "silent b", [], [], {}, {}),
+    (MOVES, "silent c", [({"cc"}, {"ca", "cx"}, *BACK)], ["cc"], {}, {}),
+    (MOVES, "silent a c", [({"cc"}, {"ca", "cx"}, *UNTIL_MENDED)], [], {"cc": 3, "cx": 2, "ca": 1}, {"cc": 3, "cx": 2, "ca": 1}),
+    (MOVES, "silent a to c", [({"cc"}, {"ca", "cx"}, *UNTIL_MENDED)], [], {"cc": 3}, {"cc": 3, "cx": 2, "ca": 1}),
+    (MOVES, "silent a x", [({"cx"}, {"ca", "cc"}, *MOVED), ({"cx"}, {"ca", "cc"}, *RETURNS)], [], {"cx": 3, "ca": 2, "cc": 1}, {}),
+    (MOVES, "silent a to x", [({"cx"}, {"ca", "cc"}, *MOVED), ({"cx"}, {"ca", "cc"}, *RETURNS)], [], {"cx": 3}, {}),
+    # What x hears first is that a has given up, and so it moves a message later.
+    (MOVES, "silent x to a", [({"cx"}, {"ca", "cc"}, *MOVED[:2], 180.02), ({"cx"}, {"ca", "cc"}, *RETURNS)], [], {"ca": 2, "cc": 1}, {}),
+    (MESHED, "silent b c", [({"cb"}, {"cc", "cy"}, *UNTIL_MENDED)], [], {"cb": 2, "cc": 2, "cy": 1}, {"cb": 2, "cc": 2, "cy": 1}),
+    (MESHED, "silent d", [({"cd"}, {"ca", "cb", "cc", "cx", "cy"}, *BACK)], ["cd"], {}, {}),
+    (MESHED, "silent y to c", [({"cy"}, {"ca", "cb", "cc", "cd", "cx"}, *UNTIL_MENDED[:2], 0.05)], [],
+     {"ca": 2, "cb": 1, "cc": 1, "cd": 1, "cx": 1}, {"cy": 6, "ca": 2, "cb": 1, "cc": 1, "cd": 1, "cx": 1}),
+]  # fmt: skip
+# Other timers, a link of its own and what both come to: a case of the plan that moves, and the seconds of its first loss.
+TIMED = [
+    ((), "silent a x", 180.01),
+    (("--set", "keepalive=9"), "silent a x", 9.01),
+    (("--set", "x.keepalive=30"), "silent a x", 30.01),
+    (("--set", "b.keepalive=30"), "silent a x", 180.01),
+    (("--time",), "silent a x", 90.035),
+    (("--time",), "silent x to a", 90.045),
+]
+TIMES = '[time]\ntick = "500ms"\none_way = "10ms"\n\n[[link]]\nedges = ["x", "b"]\none_way = "35ms"\n'
+
+
+def silences(folder: pathlib.Path, _gone: set[str]) -> Iterator[Any]:
+    """Silent failures counted by hand, and beside what `summary` counts; times, other timers, and words that are none."""
+    yield from by_hand()
+    for name, begin in (CROSS, MOVES, MESHED):
+        yield from as_summed(name, begin)
+    yield from timed(folder)
+    yield from listed()
+    yield from refused(folder)
+
+
+def tried(name: str, begin: str, *words: Any) -> Any:
+    """What `--json` tells of an example."""
+    return json.loads(tool("what-if", EXAMPLES / f"{name}.toml", "--from", begin, "--json", *words)[1])
+
+
+def pairs_in(row: dict[str, Any]) -> set[frozenset[str]]:
+    """The pairs of sites that lost each other in a row."""
+    return {frozenset((a, b)) for part in row["sites"] for a in part["sites"] for b in part["lost"]}
+
+
+def by_hand() -> Iterator[Any]:
+    """Counts by hand, for three small plans."""
+    for name, begin in (CROSS, MOVES, MESHED):
+        found = {row["case"]: row for row in tried(name, begin, *WORDS)["cases"]}
+        for plan, case, lost, gone, at_once, failed in BY_HAND:
+            if plan == (name, begin):
+                row = found[case]
+                seen = {(pair, when(one["from"]), when(one["to"]), one["seconds"]) for one in row["lost"] for pair in pairs_in(one)}
+                right = {(frozenset((a, b)), start, end, time) for left, others, start, end, time in lost for a in left for b in others}
+                yield compare(f"what-if {name}, {case}", seen, right)
+                never = (row["never"].get("at once", {}), row["never"].get("failed", {}))
+                yield compare(f"what-if {name}, {case}, never", never, (at_once, failed))
+                yield compare(f"what-if {name}, {case}, rest", (row["gone"], row["twice"], row["stale"], row["calm"]), (gone, {}, [], True))
+
+
+def when(moment: dict[str, Any]) -> tuple[str, int, int]:
+    """A moment without its time."""
+    return moment["stage"], moment["tick"], moment["round"]
+
+
+def as_summed(name: str, begin: str) -> Iterator[Any]:
+    """Each case of a plan, beside what the summary of its own scenario's report counts: until when sites had lost each other, and which
+    frames came where."""
+    path = EXAMPLES / f"{name}.toml"
+    plan = read_plan(path)
+    events = plan.events[: int(begin) - 1 if begin.isdigit() else plan.events.index(begin)]
+    base = Base(plan, path.read_text(encoding="utf-8"), events)
+    base.foretell()
+    wrong = []
+    with tempfile.TemporaryDirectory() as folder:
+        for case in cases_of(plan, base.network, ["silent"]):
+            tried_case = base.try_case(case, folder)
+            row = tried_case.reading.row()
+            file = pathlib.Path(folder, "case.txt")
+            file.write_bytes(base.replay(pathlib.Path(folder, "case.toml"), base.all_events(tried_case.events)))
+            report = read_report(file, plan)
+            texts = [line[2:] for line in report.lines if line.startswith("> ")]
+            first = len(texts) - sum(line.startswith("> ") for line in tried_case.lines)
+            summary = sum_up(plan, follow(plan, report), first + 1)
+            ends = summed_ends(summary, texts, first, case.mending[0])
+            here = Counter((pair, one["to"]["stage"], one["to"]["tick"]) for one in row["lost"] for pair in pairs_in(one))
+            never = summed_never(plan, summary, base.probes, case.silence(plan).edges)
+            if here != ends or {phase: sites for phase, sites in never.items() if sites} != row["never"] or row["twice"] or row["back"]:
+                wrong.append(case.name)
+    yield compare(f"what-if {name}, silent, beside summary", wrong, [])
+
+
+def summed_ends(summary: dict[str, Any], texts: list[str], first: int, mending: str) -> Counter[Any]:
+    """The pairs of sites that found each other, and the ticks behind the failure by then, or behind the mending, which is at its first
+    event: as often as they did."""
+    mended = texts.index(mending, first) + 1
+    found: Counter[Any] = Counter()
+    for service in summary["services"]:
+        for one in service["lost"]:
+            event = one["to"]["event"]
+            ticks = sum(text == "tick" for text in texts[first:event])
+            for pair in pairs_in(one):
+                found[pair, *((MENDED, 0) if event >= mended else (FAILED, ticks))] += 1
+    return found
+
+
+def summed_never(plan: Plan, summary: dict[str, Any], probes: Any, dead: set[str]) -> dict[str, dict[str, int]]:
+    """How many frames did not come to whom in each phase, by where they left."""
+    found: dict[str, dict[str, int]] = {}
+    frames = iter(summary["frames"])
+    for phase in ("at once", "failed", "mended"):
+        counts: Counter[str] = Counter()
+        gone = dead if phase != "mended" else set()
+        for frame in probes.frames_in(phase, gone):
+            served = next(frames)["served"]
+            due = [frame.to] if frame.to is not None else [name for name in plan.circuits_of(plan.circuits[frame.circuit]["service"]) if name != frame.circuit]
+            counts.update(site for site in due if site not in served and plan.circuits[site]["edge"] not in gone)
+        found[phase] = dict(counts)
+    return found
+
+
+def timed(folder: pathlib.Path) -> Iterator[Any]:
+    """Other timers, and links of their own."""
+    file = folder / "times.toml"
+    file.write_text(TIMES, encoding="utf-8")
+    for words, case, right in TIMED:
+        more = ("--time", file) if words == ("--time",) else (*words, *WORDS[2:])
+        found = tried(*MOVES, *more, "--kinds", "silent", "--case", case)
+        one = found["cases"][0]["lost"][0]
+        yield compare(f"what-if {case}, {words}", (one["seconds"], round(one["detection"] + one["signalling"], 6)), (right, right))
+
+
+def listed() -> Iterator[Any]:
+    """A line a site, and a line a number."""
+    path, words = EXAMPLES / "spoke-moves.toml", ("--from", "11", *WORDS, "--case", "silent a", "--case", "silent x to a")
+    rows = [line.split() for line in tool("what-if", path, *words, "--sites")[1].splitlines()]
+    yield compare("what-if --sites", rows[3], "s cx 180.02 s 180 s 0.02 s silent x to a ca, cc - -".split())
+    yield compare("what-if --sites, with its edge", rows[1][-2:], ["silent", "a"])
+    rows = [line.split() for line in tool("what-if", path, *words, "--sweep", "keepalive=3,9")[1].splitlines()]
+    right = [f"keepalive = {number} {number}.02 s {number} s 0.02 s silent x to a 0 of 2 6 at once".split() for number in (3, 9)]
+    yield compare("what-if --sweep", rows[1:], right)
+    found = json.loads(tool("what-if", path, *words, "--sweep", "keepalive=3,9", "--json")[1])
+    yield compare("what-if --sweep --json", [(row["set"], len(row["cases"])) for row in found], [("keepalive = 3", 2), ("keepalive = 9", 2)])
+
+
+def refused(folder: pathlib.Path) -> Iterator[Any]:
+    """Words and files that are none."""
+    path, file = EXAMPLES / "frames-cross.toml", folder / "times.toml"
+    for words, text, right in [
+        (("--tick", "1s"), "", "--tick and --one-way go together"),
+        (("--tick", "1", "--one-way", "10ms"), "", "--tick: '1' is no time"),
+        (("--tick", "1s", "--one-way", "0.0000001s"), "", "is no time"),
+        (("--time", file), "[time]\ntick = \"1s\"\n", "has no [time] with tick and one_way"),
+        (("--time", file), TIMES, "link 1 has the edges of two neighbours"),
+        (("--time", file), "[time", "is no TOML"),
+        (("--time", file), "[time]\ntick = 1\n", "time 1: tick is a text in quotes"),
+        (("--time", file, "--tick", "1s"), TIMES, "stand without it"),
+        (("--set", "keepalive"), "", "is no KEY=NUMBER"),
+        (("--set", "keepalives=9"), "", "there is no number 'keepalives'"),
+        (("--set", "z.keepalive=9"), "", "has no edge 'z'"),
+        (("--set", "keepalive=2"), "", "keepalive is a number from 3 to 65535"),
+        (("--sweep", "age=1,x"), "", "is no KEY=NUMBER"),
+    ]:
+        file.write_text(text, encoding="utf-8")
+        status, said, fault = tool("what-if", path, *words)
+        yield compare(f"what-if {words} {text!r}", (status, said, right in fault, fault.count("\n")), (1, "", True, 1))
