@@ -1,5 +1,5 @@
 -- The labels that are owned, each with the slot of its end.
-use Rattle.std.specs.Prelude.{◌≤◌, ◌==◌, not, nat_lt, ℕ, Bool, List, length, filter, Option, Some, None, option_map}
+use Rattle.std.specs.Prelude.{◌≡◌, ◌≤◌, ◌==◌, not, nat_lt, ℕ, Bool, List, length, filter, Option, Some, None, option_map}
 use Rattle.std.specs.List.{find}
 use Rattle.label_space.specs.Kept.{AreRisingBy, put_by}
 use Rattle.pw_ends.specs.declared.owned_labels.OwnedLabel.{OwnedLabel}
