@@ -4,7 +4,7 @@ from __future__ import annotations
 
 from .grammar import Level
 from .parts import Circuit, Instance, Pseudowire, Router, Said
-from .reading import Meaning, Reader, hostname, identified, instance_of, kept_alive, offers, offers_mtu, offers_one, own_address, pw_id_of
+from .reading import LEFT_OUT, Meaning, Reader, hostname, identified, instance_of, kept_alive, offers, offers_mtu, offers_one, own_address, pw_id_of
 
 TYPE_CHECKING = False
 if TYPE_CHECKING:
@@ -49,7 +49,7 @@ def wired(_reader: Reader, within: Instance, block: Block, name: str) -> Pseudow
 
 def to_router(reader: Reader, within: Pseudowire, block: Block, text: str) -> None:
     """The neighbour's identifier."""
-    within.neighbour = reader.address(block, text)
+    within.neighbour = reader.address(block, text, LEFT_OUT)
     within.left_out = within.left_out or within.neighbour is None
 
 

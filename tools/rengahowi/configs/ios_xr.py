@@ -6,7 +6,7 @@ from .grammar import Level
 from .parts import MESH, POINT, SPOKE, Instance, Pseudowire, Router, Said
 from .reading import (
     Interface, Meaning, Reader, aged, attached, described, discovered, hostname, identified, instance_of, kept_alive, of_class, offers, offers_mtu, offers_one,
-    own_address, plain, pops_tag, pseudowire_to, refused, shut_instance, shut_interface, shut_wire, static, tagged, told_of_circuit,
+    own_address, pops_tag, pseudowire_to, pw_class, refused, shut_instance, shut_interface, shut_wire, static, tagged, told_of_circuit,
 )
 
 TYPE_CHECKING = False
@@ -75,18 +75,6 @@ def backed_up(reader: Reader, within: Pseudowire, block: Block, address: str, pw
     first, second = MEANINGS["priority"].value
     within.rank, made.rank = Said(first, within.line), Said(second, block.line)
     return made
-
-
-def pw_class(_reader: Reader, router: Router, _block: Block, name: str) -> Any:
-    """What all pseudowires of a class offer."""
-    return Class(router.classes.setdefault(plain(name), {}))
-
-
-class Class:
-    """What a class offers."""
-
-    def __init__(self, offer: dict[str, Said]) -> None:
-        self.offer = offer
 
 
 PORT = Level(

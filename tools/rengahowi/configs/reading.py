@@ -27,6 +27,7 @@ REASONS = {
     "encapsulation": "no pseudowire over MPLS",
 }
 SHOWN = 80
+LEFT_OUT = ": the pseudowire is left out"
 LONGEST_DESCRIPTION = 80
 
 
@@ -47,6 +48,7 @@ class Interface:
         self.keeps_tag = False
         self.offer: dict[str, Said] = {}
         self.addresses: list[tuple[str, int]] = []
+        self.said: dict[str, Said] = {}
         self.kept: list[Block] = []
         self.told: list[tuple[Block, str]] = []
         self.is_circuit = False
@@ -77,6 +79,8 @@ class Reader:
             if not instance.shut:
                 self.attach(instance, name, line)
         self.router.instances = [instance for instance in self.router.instances if not instance.shut]
+        for instance in self.router.instances:
+            instance.circuits.sort(key=lambda circuit: circuit.line)
         self.check_classes()
 
     def blocks(self, text: str) -> list[Block]:
@@ -114,18 +118,18 @@ class Reader:
         elif mode == "kept":
             within.kept.append(block)
 
-    def number(self, block: Block, text: str, least: int, most: int, what: str) -> int | None:
-        """A number of a line; None where it is told as none that a scenario takes."""
+    def number(self, block: Block, text: str, least: int, most: int, what: str, then: str = "") -> int | None:
+        """A number of a line; None where it is told as none that a scenario takes, and what then is so."""
         if least <= int(text) <= most:
             return int(text)
-        self.tell(block.line, f"{what} {text}: a scenario has {least} to {most}", "range")
+        self.tell(block.line, f"{what} {text}: a scenario has {least} to {most}{then}", "range")
         return None
 
-    def address(self, block: Block, text: str) -> str | None:
-        """An address of a line; None where it is told as none."""
+    def address(self, block: Block, text: str, then: str = "") -> str | None:
+        """An address of a line; None where it is told as none, and what then is so."""
         if is_address(text):
             return text
-        self.tell(block.line, f"{text[:SHOWN]!r} is no IPv4 address", "range")
+        self.tell(block.line, f"{text[:SHOWN]!r} is no IPv4 address{then}", "range")
         return None
 
     def add_address(self, block: Block, text: str, of_router: bool = False) -> None:
@@ -152,6 +156,15 @@ class Reader:
                     self.router.addresses.setdefault(address, line)
                     self.router.address = self.router.address or (address if one in loopbacks else None)
 
+    def tell_kept(self, one: Interface) -> None:
+        """Tells the lines of an interface that matter since it is a circuit; once."""
+        for block in one.kept:
+            self.left(block)
+        for block, why in one.told:
+            self.left(block, why)
+        one.kept.clear()
+        one.told.clear()
+
     def attach(self, instance: Instance, name: str, line: int) -> None:
         """A circuit of a service: an interface, with its tag."""
         one = self.interfaces.get(name)
@@ -162,10 +175,7 @@ class Reader:
             self.tell(line, f"{name} is a circuit of another service already: it is left out here", "differs")
             return
         one.is_circuit = True
-        for block in one.kept:
-            self.left(block)
-        for block, why in one.told:
-            self.left(block, why)
+        self.tell_kept(one)
         if one.refused is not None:
             self.tell(one.refused.line, f"{name} is left out: {one.refused.value}")
             return
@@ -244,16 +254,28 @@ def kept_alive(reader: Reader, _within: Any, block: Block, text: str) -> None:
         reader.router.keepalive = number
 
 
+class Class:
+    """What all pseudowires of a class offer."""
+
+    def __init__(self, offer: dict[str, Said]) -> None:
+        self.offer = offer
+
+
+def pw_class(_reader: Reader, router: Router, _block: Block, name: str) -> Class:
+    """A class of pseudowires."""
+    return Class(router.classes.setdefault(plain(name), {}))
+
+
 def pw_id_of(reader: Reader, block: Block, text: str) -> Said | None:
     """A PW ID of a line."""
-    number = reader.number(block, text, 1, 4294967295, "PW ID")
+    number = reader.number(block, text, 1, 4294967295, "PW ID", LEFT_OUT)
     return None if number is None else Said(number, block.line)
 
 
 def pseudowire_to(reader: Reader, block: Block, address: str, pw_id: str | None, kind: str) -> Pseudowire:
     """The pseudowire of a line that names its neighbour, and perhaps its PW ID."""
     wire = Pseudowire(f"to {address}", block.line, kind)
-    wire.neighbour = reader.address(block, address)
+    wire.neighbour = reader.address(block, address, LEFT_OUT)
     wire.left_out = wire.neighbour is None
     if pw_id is not None:
         wire.pw_id = pw_id_of(reader, block, pw_id)
@@ -279,6 +301,15 @@ def identified(reader: Reader, _within: Any, block: Block, text: str) -> None:
         reader.add_address(block, text, of_router=True)
     else:
         reader.identifier = Said(text, block.line)
+
+
+def says(key: str) -> Callable[..., None]:
+    """A line of an interface that is looked up when all lines are read."""
+
+    def does(_reader: Reader, within: Interface, block: Block, text: str) -> None:
+        within.said[key] = Said(plain(text), block.line)
+
+    return does
 
 
 def tagged(reader: Reader, within: Interface, block: Block, text: str) -> None:
