@@ -13,6 +13,8 @@ if TYPE_CHECKING:
 CONFIGS = TOP / "examples" / "configs"
 # What stands beside the configurations of an example: the plan and the lines that are due, made by hand.
 PLAN, TOLD = "plan.toml", "told.txt"
+# The words of the examples that have some.
+WORDS = {"junos/refused": ["--known"]}
 # A text that is no configuration to work with, the line and some words by which it is refused.
 REFUSED = [
     ("", 1, "whose configuration this is"),
@@ -26,8 +28,8 @@ def from_configs(folder: pathlib.Path, _gone: set[str]) -> Iterator[bool]:
     """The plan of each example of configurations is the one that stands beside it, and so is what is told; some are refused."""
     for place in sorted(path.parent for path in CONFIGS.glob("*/*/" + PLAN)):
         files = sorted(path.name for path in place.iterdir() if path.name not in (PLAN, TOLD))
-        status, said, fault = tool("from-config", *files, folder=place)
-        name = place.relative_to(CONFIGS)
+        name = str(place.relative_to(CONFIGS))
+        status, said, fault = tool("from-config", *WORDS.get(name, []), *files, folder=place)
         yield compare(f"from-config {name}", (status, said), (0, (place / PLAN).read_text(encoding="utf-8")))
         yield compare(f"from-config {name}, told", fault, (place / TOLD).read_text(encoding="utf-8"))
     path = folder / "one.conf"

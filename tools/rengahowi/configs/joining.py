@@ -281,7 +281,7 @@ class Joining:
         row = {"name": self.names.give(a, b, str(pw_id)), "service": service["name"], "class": wire.kind, "path": [a, b], "pw_id": pw_id}
         if wire.kind == SPOKE and near.wire.rank is not None:
             row["priority"] = near.wire.rank.value
-        offers = [self.offer(end, near if end.guessed else far if near.guessed else end) for end in (near, far)]
+        offers = [self.offer(near, far), self.offer(far, near)]
         tell_differences(self.told, (near, far), offers)
         ends = [self.told_of(offer, service) for offer in offers]
         if ends[0]:
@@ -290,9 +290,10 @@ class Joining:
             row["far"] = ends[1]
         self.add_row("wire", row, near.router, near.wire.line)
 
-    def offer(self, end: End, by: End) -> dict[str, Said]:
+    def offer(self, end: End, other: End) -> dict[str, Said]:
         """What an end offers; one that is guessed offers what the other one does."""
-        return (by if end.guessed else end).router.offered(by.instance, by.wire)
+        known = other if end.guessed else end
+        return known.router.offered(known.instance, known.wire)
 
     def told_of(self, offer: dict[str, Said], service: dict[str, Any]) -> dict[str, Any]:
         """What an end offers, as far as it is not what a row without it says."""
