@@ -1,5 +1,5 @@
 -- In a quiet service what is told along a wire is one chain from terminal edge to terminal edge.
-use Rattle.std.proofs.Common.{◌≡◌, ◌+◌, ◌++◌, ◌&&◌, ◌||◌, ◌∙◌, ℕ, zero, suc, Bool, true, false, not, List, [], ◌∷◌, Option, Some, None, length, refl, sym, ap, arith, length-append}
+use Rattle.std.proofs.Common.{◌≡◌, ◌≢◌, ◌+◌, ◌++◌, ◌&&◌, ◌||◌, ◌∙◌, ℕ, zero, suc, Bool, true, false, not, List, [], ◌∷◌, Option, Some, None, length, refl, sym, ap, arith, length-append}
 use Rattle.std.proofs.lemmas.Option.{same_Some}
 use Rattle.net_values.proofs.BoolLemmas.{clash, second_fails, first_fails}
 use Rattle.net_values.proofs.OptionLemmas.{none_some}
@@ -26,10 +26,12 @@ use Rattle.network_model.proofs.GoalLemmas.{has_mate}
 use Rattle.flight_laws.specs.Across.{PassesOn, TellsAcross}
 use Rattle.flight_laws.specs.Binding.{advertised_by, is_idle, is_withdrawing}
 use Rattle.flight_laws.specs.Laws.{AreSettled, BothStand, network_after}
+use Rattle.flight_laws.specs.Releases.{AllDeclineNone}
 use Rattle.flight_laws.proofs.AcrossLemmas.{runs_tell_across}
 use Rattle.flight_laws.proofs.BoundRunLemmas.{runs_settle}
+use Rattle.flight_laws.proofs.ReleaseLemmas.{runs_decline_none}
 use Rattle.flight_laws.proofs.RuledMendLemmas.{wire_fits}
-use Rattle.flood_laws.specs.Chain.{Advertises, BeginsAt, GoesOnAt, HasNoLabel, IsChain, Tells, TellsInChains, TellsOn, WasDeclined, told_on}
+use Rattle.flood_laws.specs.Chain.{Advertises, BeginsAt, GoesOnAt, HasNoLabel, IsChain, Tells, TellsInChains, TellsOn, told_on}
 use Rattle.flood_laws.specs.Laws.{RunsTellInChains}
 use Rattle.flood_laws.proofs.FarLemmas.{are_settled, far_advertises, joined_by}
 
@@ -51,7 +53,7 @@ has_end (Some kept) up = refl
 
 module _ (plan : Plan) (network : NetworkState) (service : ServiceId) (wire : WireId) (row : WirePlan) (checked : IsChecked plan) (quiet : is_quiet plan network service ≡ true)
     (settled : (a b : ℕ) → are_joined_by plan service a b ≡ true → AreSettled plan network a b) (is : wire_row plan wire ≡ Some row) (ours : is_wire_of service row ≡ true)
-    (across : (me from to : EdgeId) → mate row me.0 from.0 ≡ Some to → TellsAcross plan me from to wire row (network.edges me.0)) where
+    (across : (me from to : EdgeId) → mate row me.0 from.0 ≡ Some to → TellsAcross plan me from to wire row (network.edges me.0)) (declines : AllDeclineNone plan network) where
   row_is : IsWireOf plan row
   row_is = wire_fits plan wire row checked is
 
@@ -136,11 +138,17 @@ module _ (plan : Plan) (network : NetworkState) (service : ServiceId) (wire : Wi
     same : (content' : Told) (passes : PassesOn plan me from to wire row (network.edges me.0) content') → content' ≡ told_on plan row me from content
     same content' passes = passes.content_is ∙ ap (λ (b : Binding). told_on plan row me from b.told) (same_Some passes.binding binding (sym passes.held ∙ held))
 
+    onward : joins me.0 to.0 row.path ≡ true
+    onward = mate_joined row.path me.0 from.0 to mated
+
+    undeclined : ((network.edges me.0).ends wire.0 to.0).local ≢ Idle true
+    undeclined = (declines me.0 to.0 (both_stand me.0 to.0 onward (has_end ((network.edges me.0).peering to.0) up))).undeclined wire row is onward
+
     by : (local : LocalPart) → ((network.edges me.0).ends wire.0 to.0).local ≡ local → TellsOn (network.edges me.0) wire to (told_on plan row me from content)
-    by (Idle true) at = WasDeclined at
-    by (Idle false) at = HasNoLabel ((across me from to mated).idle binding held on up at)
+    by (Idle true) at = absurd (undeclined at)
+    by (Idle false) at = HasNoLabel at ((across me from to mated).idle binding held on up at)
     by (Advertised label content') at = Tells label (at ∙ ap (λ (t : Told). Advertised label t) (same content' ((across me from to mated).advertised label content' at)))
-    by (Withdrawing label) at = clash (sym (waits_not me.0 to.0 (mate_joined row.path me.0 from.0 to mated) up) ∙ ap is_withdrawing at)
+    by (Withdrawing label) at = clash (sym (waits_not me.0 to.0 onward up) ∙ ap is_withdrawing at)
 
   pub tells_in_chains : TellsInChains plan network wire row
   tells_in_chains = record { chained = λ me to content joined told. chain (length content.points) me to content refl joined told; goes_on = tells_on }
@@ -150,4 +158,4 @@ module _ (plan : Plan) (network : NetworkState) (service : ServiceId) (wire : Wi
 pub runs_tell_in_chains : RunsTellInChains
 runs_tell_in_chains plan events run service quiet wire row is ours =
     tells_in_chains plan (network_after plan events) service wire row run.checked quiet (λ a b joined. runs_settle plan events run service quiet a b joined) is ours
-    (λ me from to mated. runs_tell_across plan events run me from to wire row is mated)
+    (λ me from to mated. runs_tell_across plan events run me from to wire row is mated) (λ a b both. runs_decline_none plan events run a b both)

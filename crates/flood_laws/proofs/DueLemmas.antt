@@ -129,6 +129,22 @@ reaches_core plan calm service e s core =
     own : (e : ℕ) → is_spoke_edge plan service e ≡ false → core_of plan calm service e ≡ Some e
     own e none = ap (λ (b : Bool). cond b (home_of plan calm service e) (Some e)) none
 
+-- a mesh wire counts for no spoke, and a spoke for no mesh wire
+pub no_spoke : (plan : Plan) (calm : NetworkState) (service : ServiceId) (x e k : ℕ) (w : WirePlan) → is_mesh_class w.class ≡ true → by_spoke plan calm service x e k w ≡ 0
+no_spoke plan calm service x e k w mesh = none (is_wire_of service w) (is_mesh_class w.class) (is_first x w.path) (carries plan calm k w) (is_last e w.path) mesh where
+  none : (a m first live last : Bool) → m ≡ true → one ((((a && not m) && first) && live) && last) ≡ 0
+  none true true first live last e = refl
+  none true false first live last e = absurd (cc (e))
+  none false m first live last e = refl
+
+pub no_mesh : (plan : Plan) (calm : NetworkState) (service : ServiceId) (e k : ℕ) (w : WirePlan) (other : Option ℕ) → is_mesh_class w.class ≡ false → by_mesh plan calm service e other k w ≡ 0
+no_mesh plan calm service e k w None spoke = refl
+no_mesh plan calm service e k w (Some h) spoke = none (is_wire_of service w) (is_mesh_class w.class) _ (carries plan calm k w) spoke where
+  none : (a m between live : Bool) → m ≡ false → one (((a && m) && between) && live) ≡ 0
+  none true true between live e = absurd (cc (e))
+  none true false between live e = refl
+  none false m between live e = refl
+
 -- at a core edge
 module _ (plan : Plan) (calm : NetworkState) (service : ServiceId) (circuit : CircuitId) (site : CircuitPlan) (site_is : circuit_row plan circuit ≡ Some site) (of_service : nat_eq site.service.0 service.0 ≡ true)
     (home : HasHome plan calm service site.edge.0) (checked : IsChecked plan) where
@@ -149,21 +165,6 @@ module _ (plan : Plan) (calm : NetworkState) (service : ServiceId) (circuit : Ci
     none_left : (b : Bool) → 0 ≡ one (b && false)
     none_left true = refl
     none_left false = refl
-
-    no_spoke : is_mesh_class w.class ≡ true → (e : ℕ) → by_spoke plan calm service site.edge.0 e k w ≡ 0
-    no_spoke mesh e = none (is_wire_of service w) (is_mesh_class w.class) (is_first site.edge.0 w.path) (carries plan calm k w) (is_last e w.path) mesh where
-      none : (a m first live last : Bool) → m ≡ true → one ((((a && not m) && first) && live) && last) ≡ 0
-      none true true first live last e = refl
-      none true false first live last e = absurd (cc (e))
-      none false m first live last e = refl
-
-    no_mesh : is_mesh_class w.class ≡ false → (e : ℕ) (other : Option ℕ) → by_mesh plan calm service e other k w ≡ 0
-    no_mesh spoke e None = refl
-    no_mesh spoke e (Some h) = none (is_wire_of service w) (is_mesh_class w.class) _ (carries plan calm k w) spoke where
-      none : (a m between live : Bool) → m ≡ false → one (((a && m) && between) && live) ≡ 0
-      none true true between live e = absurd (cc (e))
-      none true false between live e = refl
-      none false m between live e = refl
 
     -- by a mesh wire, towards the core edge of the circuit
     mesh_from_near : is_mesh_class w.class ≡ true → (other : Option ℕ) → by_mesh plan calm service link.near.0 other k w ≡ one (carries plan calm k w && is_home link.far.0 other)
@@ -193,7 +194,7 @@ module _ (plan : Plan) (calm : NetworkState) (service : ServiceId) (circuit : Ci
         ∙ ap (λ (b : Bool). carries plan calm k w && b) (home.beside link.far.0 (far_core plan service k w link checked is ours)) in
         let sent = ap (λ (b : Bool). cond (is_wire_of service w && forwards plan calm link.near.0 k) (one b) 0) serves
         ∙ gate (is_wire_of service w) (forwards plan calm link.near.0 k) (carries plan calm k w) (is_home link.far.0 core) ours (near_forwards plan calm k w link) in
-        due_near plan calm service circuit k w link ∙ (sent ∙ omega (arith, no_spoke mesh link.near.0, mesh_from_near mesh core))
+        due_near plan calm service circuit k w link ∙ (sent ∙ omega (arith, no_spoke plan calm service site.edge.0 link.near.0 k w mesh, mesh_from_near mesh core))
 
     by_far_mesh : is_mesh_class w.class ≡ true → due_by plan calm service circuit link.far.0 None k w ≡ counts link.far.0 k w
     by_far_mesh mesh =
@@ -201,7 +202,7 @@ module _ (plan : Plan) (calm : NetworkState) (service : ServiceId) (circuit : Ci
         ∙ ap (λ (b : Bool). carries plan calm k w && b) (home.beside link.near.0 (mesh_near plan service k w link checked is (rw (ours, mesh) refl))) in
         let sent = ap (λ (b : Bool). cond (is_wire_of service w && forwards plan calm link.far.0 k) (one b) 0) serves
         ∙ gate (is_wire_of service w) (forwards plan calm link.far.0 k) (carries plan calm k w) (is_home link.near.0 core) ours (far_forwards plan calm k w link) in
-        due_far plan calm service circuit k w link ∙ (sent ∙ omega (arith, no_spoke mesh link.far.0, mesh_from_far mesh core))
+        due_far plan calm service circuit k w link ∙ (sent ∙ omega (arith, no_spoke plan calm service site.edge.0 link.far.0 k w mesh, mesh_from_far mesh core))
 
     -- by a spoke, to its spoke edge
     by_near_spoke : is_mesh_class w.class ≡ false → is_spoke_edge plan service link.near.0 ≡ false
@@ -232,7 +233,7 @@ module _ (plan : Plan) (calm : NetworkState) (service : ServiceId) (circuit : Ci
         only false false j false = refl
 
     by_far_spoke : is_mesh_class w.class ≡ false → due_by plan calm service circuit link.far.0 None k w ≡ counts link.far.0 k w
-    by_far_spoke spoke = omega (arith, spoke_from_far spoke, no_mesh spoke link.far.0 core)
+    by_far_spoke spoke = omega (arith, spoke_from_far spoke, no_mesh plan calm service link.far.0 k w core spoke)
 
     -- and by no wire that does not end there
     by_away : (e : ℕ) → nat_eq e link.near.0 ≡ false → nat_eq e link.far.0 ≡ false → due_by plan calm service circuit e None k w ≡ counts e k w

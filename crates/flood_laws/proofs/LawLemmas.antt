@@ -24,7 +24,7 @@ use Rattle.network_model.specs.State.{NetworkState}
 use Rattle.network_model.proofs.CalmLemmas.{below_holds}
 use Rattle.flood_laws.specs.Due.{awaits, due_by, wires_due}
 use Rattle.flood_laws.specs.Reached.{core_of, have_mesh, is_meshed_with, reaches}
-use Rattle.flood_laws.proofs.DueLemmas.{awaits_far, awaits_mesh, awaits_near, carries_by, core_due, due_after_mesh, due_after_spoke, due_far, far_forwards, one, spoke_due, stitches}
+use Rattle.flood_laws.proofs.DueLemmas.{awaits_far, awaits_mesh, awaits_near, carries_by, core_due, due_after_mesh, due_after_spoke, due_far, far_forwards, no_mesh, no_spoke, one, spoke_due, stitches}
 use Rattle.flood_laws.proofs.HomeLemmas.{HasCore, HasHome, HasLoneSpokes, by_spoke, has_core, has_home, lone_calm, none_home}
 use Rattle.flood_laws.proofs.LinkLemmas.{IsLink, link_at}
 use Rattle.flood_laws.proofs.MeshLemmas.{by_mesh, far_core, mesh_near, mesh_none, mesh_sum, some_mesh}
@@ -196,27 +196,14 @@ mesh_arrives plan calm service circuit site came v to checked lone site_is of_se
     opened : (live x : Bool) → live ≡ true → live && x ≡ x
     opened live x is = rw is refl
 
-    no_spoke : (ours m first live last : Bool) → m ≡ true → 0 ≡ one ((((ours && not m) && first) && live) && last)
-    no_spoke true true first live last e = refl
-    no_spoke true false first live last e = absurd (cc (e))
-    no_spoke false m first live last e = refl
-
-    no_mesh : (o : Option ℕ) (k : ℕ) (w : WirePlan) → is_mesh_class w.class ≡ false → by_mesh plan calm service to o k w ≡ 0
-    no_mesh None k w spoke = refl
-    no_mesh (Some h) k w spoke = none_left (is_wire_of service w) (is_mesh_class w.class) _ (carries plan calm k w) spoke where
-      none_left : (a m between live : Bool) → m ≡ false → one (((a && m) && between) && live) ≡ 0
-      none_left true true between live e = absurd (cc (e))
-      none_left true false between live e = refl
-      none_left false m between live e = refl
-
     only : (k : ℕ) (w : WirePlan) (m : Bool) → is_mesh_class w.class ≡ m → due_by plan calm service circuit to None k w
         ≡ by_spoke plan calm service site.edge.0 to k w + by_mesh plan calm service to (core_of plan calm service site.edge.0) k w
         → cond (is_mesh_class w.class) 0 (due_by plan calm service circuit to None k w) ≡ by_spoke plan calm service site.edge.0 to k w
     only k w true is due =
         ap (λ (t : Bool). cond t 0 (due_by plan calm service circuit to None k w)) is
-        ∙ no_spoke (is_wire_of service w) (is_mesh_class w.class) (is_first site.edge.0 w.path) (carries plan calm k w) (is_last to w.path) is
+        ∙ sym (no_spoke plan calm service site.edge.0 to k w is)
     only k w false is due = ap (λ (t : Bool). cond t 0 (due_by plan calm service circuit to None k w)) is
-        ∙ omega (arith, due, no_mesh (core_of plan calm service site.edge.0) k w is)
+        ∙ omega (arith, due, no_mesh plan calm service to k w (core_of plan calm service site.edge.0) is)
 
 -- what goes out where a copy came by a spoke is what goes out where a frame enters, without that spoke
 spoke_rest : (plan : Plan) (calm : NetworkState) (service : ServiceId) (circuit : CircuitId) (came : ℕ) (v : WirePlan) (to : ℕ)

@@ -3,6 +3,7 @@ pub mod BridgeLemmas
 pub mod CalmReachLemmas
 pub mod CarryLemmas
 pub mod ChainLemmas
+pub mod ChoiceLemmas
 pub mod ChosenLemmas
 pub mod CopyLemmas
 pub mod CountLemmas

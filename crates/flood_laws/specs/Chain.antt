@@ -1,5 +1,5 @@
 -- In a quiet service what is told along a wire is one chain from terminal edge to terminal edge.
-use Rattle.std.specs.Prelude.{◌≡◌, ℕ, true, Some, None}
+use Rattle.std.specs.Prelude.{◌≡◌, ℕ, true, false, Some, None}
 use Rattle.edge_model.specs.Labels.{label_to_give}
 use Rattle.net_base.specs.declared.plan.Plan.{Plan}
 use Rattle.net_base.specs.declared.plan.places.EdgeId.{EdgeId}
@@ -30,11 +30,10 @@ pub data IsChain (plan : Plan) (network : NetworkState) (wire : WireId) (row : W
   GoesOnAt : (from me to : EdgeId) (before content : Told) → mate row me.0 from.0 ≡ Some to → IsChain plan network wire row from me before → content ≡ told_on plan row me from before → Advertises network wire me to content
       → IsChain plan network wire row me to content
 
--- an edge advertises this content to a neighbour, or cannot: the neighbour has released its label unasked, or no label is left
+-- an edge advertises this content to a neighbour, or is idle, since it has no label left
 pub data TellsOn (edge : EdgeState) (wire : WireId) (to : EdgeId) (content : Told) : Type 0 where
   Tells : (label : ℕ) → (edge.ends wire.0 to.0).local ≡ Advertised label content → TellsOn edge wire to content
-  WasDeclined : (edge.ends wire.0 to.0).local ≡ Idle true → TellsOn edge wire to content
-  HasNoLabel : label_to_give edge ≡ None → TellsOn edge wire to content
+  HasNoLabel : (edge.ends wire.0 to.0).local ≡ Idle false → label_to_give edge ≡ None → TellsOn edge wire to content
 
 -- Whatever is advertised along the wire ends such a chain; and the chain goes on at each switching point at which the wire is on and the
 -- session with the next neighbour is up.

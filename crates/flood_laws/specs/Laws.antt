@@ -27,8 +27,7 @@ use Rattle.flood_laws.specs.SharesReached.{SharesReachedEach}
 abbrev pub RunsServeOnce : Type 0
 RunsServeOnce = (plan : Plan) (events : List Event) → IsRun plan events → OnceEach 12 plan events
 
--- in every run, at every moment of every window, each site but the sender was served once, or is ahead of
--- one copy
+-- in every run, at every moment of every window, each site but the sender was served once, or is ahead of one copy
 abbrev pub RunsShareSites : Type 0
 RunsShareSites = (plan : Plan) (events : List Event) → IsRun plan events → SharesEach plan events
 
@@ -58,7 +57,7 @@ RunsReachWhatWiresCarry = (plan : Plan) (events : List Event) → IsRun plan eve
 abbrev pub RunsShareReached : Type 0
 RunsShareReached = (plan : Plan) (events : List Event) → IsRun plan events → SharesReachedEach plan events
 
--- where a service is calm, each of its sites is reached but the sender
+-- where a service is calm, a flooded frame reaches each of its sites but the sender
 abbrev pub IsAllReachedWhereCalm : Plan → NetworkState → Type 0
 IsAllReachedWhereCalm plan network = (service : ServiceId) (sender circuit : CircuitId) → is_calm plan network service ≡ true → service_of plan sender ≡ Some service
     → is_reached plan network service sender circuit ≡ is_site plan network service circuit && not (circuit.0 == sender.0)

@@ -4,6 +4,7 @@ pub mod Due
 pub mod Laws
 pub mod Copy
 pub mod Chain
+pub mod Deliveries
 pub mod Hops
 pub mod Shares
 pub mod SharesReached

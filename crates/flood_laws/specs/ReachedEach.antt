@@ -19,7 +19,7 @@ use Rattle.network_model.specs.Step.{step}
 use Rattle.network_model.specs.Window.{all_spare, has_copies, is_flooded_frame}
 use Rattle.flood_laws.specs.Reached.{is_reached}
 
--- the window of a frame that enters a quiet service: as Window, but that wires may be down
+-- the window of a frame that enters a quiet service: as Window, but for the wires, which may carry frames or not
 pub record QuietWindow (plan : Plan) (before : List Event) (circuit : CircuitId) (octets : List ℕ) (during : List Event) (service : ServiceId) : Type 0 where
   pub sender : service_of plan circuit ≡ Some service
   pub on : is_circuit_on plan (state_after plan (empty_network plan) before) circuit ≡ true
@@ -30,7 +30,7 @@ pub record QuietWindow (plan : Plan) (before : List Event) (circuit : CircuitId)
   pub spared : all_spare plan (next_origin (state_after plan (empty_network plan) before)) (step plan (state_after plan (empty_network plan) before) (Frame circuit octets)).state during ≡ true
   pub over : has_copies (state_after plan (step plan (state_after plan (empty_network plan) before) (Frame circuit octets)).state during) (next_origin (state_after plan (empty_network plan) before)) ≡ false
 
--- once at each circuit that is reached, and nowhere else
+-- the frame leaves once at each circuit that it reaches, and nowhere else
 pub record ServedReached (most : ℕ) (plan : Plan) (before : List Event) (sender : CircuitId) (service : ServiceId) (entries : List Entry) : Type 0 where
   pub once : (circuit : CircuitId)
       → times_left (next_origin (state_after plan (empty_network plan) before)) circuit entries

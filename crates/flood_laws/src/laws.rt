@@ -29,7 +29,7 @@ pub fn runs_share_sites()
 /// Where a service is quiet, whatever an edge advertises along a wire of it has come from the terminal edge behind it, edge by edge:
 /// a terminal edge tells of itself, and a switching point what its other neighbour advertises to it, the status too, behind its own
 /// point. Where a neighbour advertises to a switching point at which the wire is on and the session with the next edge is up, the
-/// switching point tells it on, unless that edge has released the label unasked or no label is left (RFC 6073 sections 4 and 7).
+/// switching point tells it on, or is idle there, since it has no label left (RFC 6073 sections 4 and 7).
 #[tactic(auto, using(crate::proofs::ChainLemmas::runs_tell_in_chains))]
 pub fn runs_tell_in_chains()
     ensures { RunsTellInChains }

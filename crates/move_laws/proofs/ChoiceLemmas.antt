@@ -32,7 +32,8 @@ use Rattle.flight_laws.specs.Sound.{point_limit}
 use Rattle.flight_laws.proofs.BindingLemmas.{some_last}
 use Rattle.move_laws.specs.Moves.{has_short_paths}
 use Rattle.ldp_grammar.specs.declared.message.Message.{Message}
-use Rattle.move_laws.proofs.ForwardLemmas.{IsChoice, advertises_it, all_get, choice_is}
+use Rattle.flood_laws.proofs.ChoiceLemmas.{IsChoice, all_get, choice_is}
+use Rattle.move_laws.proofs.ForwardLemmas.{advertises_it}
 use Rattle.move_laws.proofs.PendingLemmas.{tells_on}
 use Rattle.move_laws.proofs.SpeakLemmas.{Speaks, said_more, speaks_first}
 use Rattle.move_laws.proofs.StayLemmas.{rows_speak}

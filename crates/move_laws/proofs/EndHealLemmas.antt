@@ -13,7 +13,7 @@ use Rattle.hvpls_spokes.specs.Port.{ports_of}
 use Rattle.hvpls_spokes.specs.declared.port.Port.TheVariants as port
 use Rattle.hvpls_spokes.specs.declared.port.Port.{Port}
 use Rattle.mac_table.specs.declared.mac_entry.MacEntry.{MacEntry}
-use Rattle.move_laws.proofs.ForwardLemmas.{all_by_place, all_get}
+use Rattle.flood_laws.proofs.ChoiceLemmas.{all_by_place, all_get}
 use Rattle.move_laws.proofs.LiveLemmas.{other_of}
 use Rattle.move_laws.proofs.LiveSpokeLemmas.{IsLiveAt, live_at, live_same, quiet_way, spoke_at_link}
 use Rattle.move_laws.proofs.ShortLinkLemmas.{IsShortLink, far_is, has_two, short_link}

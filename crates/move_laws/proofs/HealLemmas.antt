@@ -4,6 +4,7 @@ use Rattle.address_laws.specs.Sites.{Sites}
 use Rattle.flight_laws.proofs.RunLemmas.{run_ordered, step_keeps}
 use Rattle.flight_laws.specs.Ends.{HasTypes, IsOrdered}
 use Rattle.flight_laws.specs.Laws.{IsRun, network_after}
+use Rattle.flood_laws.specs.Deliveries.{is_delivery}
 use Rattle.move_laws.specs.Moves.{has_short_paths}
 use Rattle.move_laws.proofs.DeliverHealLemmas.{HasMeshes, deliver_heals}
 use Rattle.move_laws.proofs.EndHealLemmas.{end_points}
@@ -11,7 +12,6 @@ use Rattle.move_laws.proofs.MoveHealLemmas.{move_heals}
 use Rattle.move_laws.proofs.StartHealLemmas.{all_meshes, start_heals}
 use Rattle.move_laws.specs.Healing.{Heals}
 use Rattle.move_laws.specs.Laws.{RunsHealMoves}
-use Rattle.move_laws.specs.Moves.{is_delivery}
 use Rattle.net_base.specs.declared.plan.Plan.{Plan}
 use Rattle.net_base.specs.declared.plan.places.ServiceId.{ServiceId}
 use Rattle.net_base.specs.declared.trace.event.Event.TheVariants.{Deliver}

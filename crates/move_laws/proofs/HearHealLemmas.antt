@@ -27,7 +27,7 @@ use Rattle.mac_table.specs.declared.mac_entry.MacEntry.{MacEntry}
 use Rattle.move_laws.proofs.ActHealLemmas.{Acted, LeavesMesh, mapping_acts, mesh_beside, release_acts, status_acts, withdraw_acts}
 use Rattle.move_laws.proofs.ClearLemmas.{AreAtPort, withdraw_chosen, withdraw_passes, withdraw_port, withdraw_stays}
 use Rattle.move_laws.proofs.ForgetLemmas.{acts_forget, all_left, event_forgets}
-use Rattle.move_laws.proofs.ForwardLemmas.{all_by_place, all_get}
+use Rattle.flood_laws.proofs.ChoiceLemmas.{all_by_place, all_get}
 use Rattle.move_laws.proofs.MendHealLemmas.{heals_on, mends_heal}
 use Rattle.move_laws.proofs.PendingLemmas.{all_weaker, entry_heals_on, tells_on}
 use Rattle.move_laws.proofs.SettleHealLemmas.{joined_back}

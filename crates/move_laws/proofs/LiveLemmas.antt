@@ -17,7 +17,7 @@ use Rattle.hvpls_spokes.proofs.WirePortLemmas.{LeadsToWire, found_wire_port, lea
 use Rattle.hvpls_spokes.specs.Port.{is_wire_port, ports_of}
 use Rattle.hvpls_spokes.specs.declared.port.Port.TheVariants as port
 use Rattle.mac_table.specs.declared.mac_entry.MacEntry.{MacEntry}
-use Rattle.move_laws.proofs.ForwardLemmas.{all_by_place, filter_at}
+use Rattle.flood_laws.proofs.ChoiceLemmas.{all_by_place, filter_at}
 use Rattle.move_laws.proofs.ShortLinkLemmas.{IsShortLink, short_link}
 use Rattle.move_laws.proofs.WireLemmas.{HasPortAt, IsLinkEnd, link_end, port_found, service_is}
 use Rattle.move_laws.specs.Healing.{IsAtLive}

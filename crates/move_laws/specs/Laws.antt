@@ -6,10 +6,11 @@ use Rattle.net_base.specs.declared.plan.places.ServiceId.{ServiceId}
 use Rattle.net_base.specs.declared.trace.event.Event.{Event}
 use Rattle.flight_laws.specs.Laws.{IsRun, network_after}
 use Rattle.network_model.specs.Calm.{is_calm}
+use Rattle.flood_laws.specs.Deliveries.{is_delivery}
 use Rattle.address_laws.specs.Points.{Points}
 use Rattle.address_laws.specs.Sites.{Sites}
 use Rattle.address_laws.specs.Stretch.{StartsRight}
-use Rattle.move_laws.specs.Moves.{has_short_paths, is_delivery, is_move}
+use Rattle.move_laws.specs.Moves.{has_short_paths, is_move}
 
 -- Where each wire of a service has a path of two edges: after one setting at a spoke edge for one of its spokes, and then deliveries
 -- alone, each calm state has each learned address point to its site again.

@@ -1,5 +1,5 @@
 -- A spoke edge may move to another one of its spokes.
-use Rattle.std.specs.Prelude.{◌==◌, ◌||◌, not, length, Bool, true, false}
+use Rattle.std.specs.Prelude.{◌==◌, ◌||◌, not, length, Bool, false}
 use Rattle.std.specs.List.{list_all}
 use Rattle.net_base.specs.declared.plan.Plan.{Plan}
 use Rattle.net_base.specs.declared.plan.places.ServiceId.{ServiceId}
@@ -29,19 +29,3 @@ is_move plan service (Again number) = false
 is_move plan service (Wire me wire on) = false
 is_move plan service (Circuit circuit on) = false
 is_move plan service (Ping me wire) = false
-
-abbrev pub is_delivery : Event → Bool
-is_delivery (Deliver from to count) = true
-is_delivery (Connect from to) = false
-is_delivery (Lose me peer) = false
-is_delivery (Restart me) = false
-is_delivery Tick = false
-is_delivery (Frame circuit octets) = false
-is_delivery (Arrive number) = false
-is_delivery (Discard number) = false
-is_delivery (Again number) = false
-is_delivery (Wire me wire on) = false
-is_delivery (Circuit circuit on) = false
-is_delivery (Status me wire bits) = false
-is_delivery (Priority me wire priority) = false
-is_delivery (Ping me wire) = false

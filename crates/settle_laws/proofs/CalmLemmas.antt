@@ -22,7 +22,6 @@ use Rattle.pw_signalling.specs.Down.{down}
 use Rattle.edge_model.specs.declared.end_place.EndPlace.{EndPlace}
 use Rattle.edge_model.specs.EndPlaces.{end_places, is_named}
 use Rattle.edge_model.specs.Ends.{end_forwards}
-use Rattle.edge_model.specs.Labels.{label_to_give}
 use Rattle.edge_model.specs.Role.{is_chosen, is_chosen_wire}
 use Rattle.edge_model.specs.Spokes.{is_spoke_row, is_usable, spoke_at, spoke_places}
 use Rattle.edge_model.specs.State.{end_at}
@@ -33,7 +32,9 @@ use Rattle.flight_laws.proofs.PlaceLemmas.{IsEndOf, NamedEnd, places_are, same_r
 use Rattle.flood_laws.proofs.ChosenLemmas.{forwards_chosen}
 use Rattle.settle_laws.specs.Sound.{has_sound_meshes, has_sound_spokes, is_sound, is_sound_mesh, is_first_choice, is_sound_row, is_sound_service, is_sound_spoke, is_used, sound_choice, sound_spoke_at}
 use Rattle.settle_laws.proofs.CarryLemmas.{carries_sound, down_sound, first_joined, first_not_last, is_chosen_first, is_taken, sound_carries, sound_usable}
-use Rattle.settle_laws.proofs.ChoiceLemmas.{HasChoice, IsChoice, all_get, makes_choice}
+use Rattle.flood_laws.proofs.ChoiceLemmas.{IsChoice, all_get}
+use Rattle.settle_laws.specs.Laws.{HasLabels}
+use Rattle.settle_laws.proofs.ChoiceLemmas.{HasChoice, makes_choice}
 use Rattle.settle_laws.proofs.WireLemmas.{HasSettled, end_same, named, row_is}
 
 -- ---- tests of wires
@@ -160,7 +161,7 @@ path_is [] edge least first = clash first
 path_is (only ∷ []) edge least first = absurd (omega (arith, least))
 path_is (x ∷ y ∷ rest) edge least first = record { next = y; rest = rest; is = ap (λ (n : ℕ). record { 0 = n } ∷ y ∷ rest) (sym (eqb-true edge x.0 first)) }
 
-module _ (plan : Plan) (network : NetworkState) (service : ServiceId) (has : HasSettled plan network service) (labels : (k : ℕ) → is_some (label_to_give (network.edges k)) ≡ true) where
+module _ (plan : Plan) (network : NetworkState) (service : ServiceId) (has : HasSettled plan network service) (labels : HasLabels plan network service) where
   abbrev wire_at : ℕ → WireId
   wire_at k = record { 0 = k }
 

@@ -1,5 +1,5 @@
 -- A wire of a quiet service carries frames exactly where it is sound, and used by its spoke edge if it is a spoke.
-use Rattle.std.proofs.Common.{◌≡◌, ◌≤◌, ◌==◌, ◌&&◌, ◌||◌, ◌∙◌, arith, length, not, is_some, ℕ, Bool, true, false, cond, List, [], ◌∷◌, Option, Some, None, nat_eq, refl, sym, ap, subst}
+use Rattle.std.proofs.Common.{◌≡◌, ◌≤◌, ◌==◌, ◌&&◌, ◌||◌, ◌∙◌, arith, length, not, ℕ, Bool, true, false, cond, List, [], ◌∷◌, Option, Some, None, nat_eq, refl, sym, ap, subst}
 use Rattle.net_values.proofs.BoolLemmas.{clash, first_holds, second_holds, or_later}
 use Rattle.net_values.proofs.NumberLemmas.{equal_turned, same_number}
 use Rattle.net_base.specs.declared.plan.Plan.{Plan}
@@ -11,7 +11,7 @@ use Rattle.net_base.specs.declared.plan.wire_plan.WirePlan.{WirePlan}
 use Rattle.net_base.specs.plan.Paths.{expected, follows, has_repeat, is_first, is_last, joins, mate_on}
 use Rattle.net_base.specs.plan.Places.{is_mesh_class, wire_row}
 use Rattle.net_base.specs.plan.Roles.{is_wire_of}
-use Rattle.net_base.proofs.PathLemmas.{joins_turned}
+use Rattle.net_base.proofs.PathLemmas.{joins_turned, mate_joined}
 use Rattle.pw_tlvs.specs.declared.pw_status.PwStatus.{PwStatus}
 use Rattle.pw_signalling.specs.declared.binding.Binding.{Binding}
 use Rattle.pw_signalling.specs.declared.end_role.EndRole.{EndRole}
@@ -24,7 +24,6 @@ use Rattle.pw_signalling.specs.Laws.{BothAgree}
 use Rattle.spoke_redundancy.specs.Telling.{is_not_chosen}
 use Rattle.edge_model.specs.EndPlaces.{is_terminal}
 use Rattle.edge_model.specs.Ends.{end_forwards, is_up}
-use Rattle.edge_model.specs.Labels.{label_to_give}
 use Rattle.edge_model.specs.Role.{end_role_of, is_chosen}
 use Rattle.network_model.specs.Calm.{carries, first_forwards, inner_stitched, is_joined_up, last_forwards}
 use Rattle.network_model.specs.State.{NetworkState, stands}
@@ -33,6 +32,7 @@ use Rattle.network_model.proofs.WayLemmas.{behind_first}
 use Rattle.net_base.specs.declared.trace.down.Down.{Down}
 use Rattle.flight_laws.specs.Laws.{BothStand}
 use Rattle.flight_laws.specs.Rules.{TellsExpected}
+use Rattle.settle_laws.specs.Laws.{HasLabels}
 use Rattle.settle_laws.specs.Sound.{are_connected, do_agree, first_is_clear, is_clear, is_connected, is_on_along, is_sound, last_is_clear}
 use Rattle.settle_laws.proofs.EndLemmas.{Fits, fits_up, up_fits}
 use Rattle.flood_laws.proofs.MateLemmas.{Mates, OfEach, OfFirst, OfLast, from_first, mates_of}
@@ -258,9 +258,9 @@ module _ (plan : Plan) (network : NetworkState) (service : ServiceId) (has : Has
     last : OfLastBack (Says status) path
     whole : fails_in status ≡ false
 
-  module _ (labels : (k : ℕ) → is_some (label_to_give (network.edges k)) ≡ true) where
+  module _ (labels : HasLabels plan network service) where
     on_further : (status : Option PwStatus) (x w y : EdgeId) → mate_on row.path x.0 w.0 ≡ Some y → Leads network wire x.0 y.0 → Says status w.0 x.0 → Says status x.0 y.0
-    on_further status x w y mated leads told = goes_on plan network service has wire row is ours status x w y (labels x.0) leads.on leads.connected mated told
+    on_further status x w y mated leads told = goes_on plan network service has wire row is ours status x w y (labels wire row is ours x.0 y.0 (mate_joined row.path x.0 w.0 y mated)) leads.on leads.connected mated told
 
     far_told : (path : List EdgeId) → IsWithin row.path path → ((e : ℕ) → is_last e path ≡ true → is_last e row.path ≡ true) → is_on_along network wire.0 path ≡ true → is_connected network path ≡ true
         → last_is_clear network wire.0 path ≡ true → FarTold path
@@ -274,7 +274,7 @@ module _ (plan : Plan) (network : NetworkState) (service : ServiceId) (has : Has
         let here : (network.edges b.0).wire_on wire.0 ≡ true =
         first_holds ((network.edges b.0).wire_on wire.0) true (second_holds ((network.edges a.0).wire_on wire.0) ((network.edges b.0).wire_on wire.0 && true) on) in
         let told : HasTold network wire b.0 a.0 =
-        tells plan network service has wire row is ours b a joined terminal (labels b.0) both here (stands_up plan network service has wire row is ours b.0 a.0 joined both) clear in
+        tells plan network service has wire row is ours b a joined terminal (labels wire row is ours b.0 a.0 joined) both here (stands_up plan network service has wire row is ours b.0 a.0 joined both) clear in
         record {
           status = told.content.status;
           last = record { label = told.label; content = told.content; is = told.is; status_is = refl };
@@ -347,7 +347,7 @@ module _ (plan : Plan) (network : NetworkState) (service : ServiceId) (has : Has
           (first_holds (are_connected network x.0 y.0) (is_connected network (y ∷ rest)) (ap (is_connected network) (sym at) ∙ all_connected))
 
       near_told : HasTold network wire x.0 y.0
-      near_told = tells plan network service has wire row is ours x y joined terminal (labels x.0) near_both
+      near_told = tells plan network service has wire row is ours x y joined terminal (labels wire row is ours x.0 y.0 joined) near_both
           (first_holds ((network.edges x.0).wire_on wire.0) (is_on_along network wire.0 (y ∷ rest)) (ap (is_on_along network wire.0) (sym at) ∙ on_all))
           (stands_up plan network service has wire row is ours x.0 y.0 joined near_both) near_clear
 

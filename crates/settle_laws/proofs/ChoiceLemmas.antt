@@ -1,25 +1,24 @@
 -- What a spoke edge has chosen: of its spokes that would forward, one, if there is one.
-use Rattle.std.proofs.Common.{◌≡◌, ◌<◌, ◌||◌, ◌∙◌, arith, cond, filter, get_or, is_some, map, not, option_and_then, option_map, slice_get, length, nat_lt, suc, zero, ℕ, Bool, true, false, List, [], ◌∷◌, Option, Some, None, refl, sym, ap, subst}
+use Rattle.std.proofs.Common.{◌≡◌, ◌<◌, ◌||◌, ◌∙◌, arith, cond, filter, is_some, map, option_and_then, option_map, slice_get, length, nat_lt, suc, zero, ℕ, Bool, true, false, List, [], ◌∷◌, Option, Some, None, refl, sym, ap, subst}
 use Rattle.std.proofs.lemmas.Bool.Decides.{nat_tests}
 use Rattle.std.proofs.lemmas.List.Quantifiers.{position-Some}
-use Rattle.std.proofs.lemmas.Option.{get_or_from_slice_get, slice_get-map}
-use Rattle.std.specs.List.{AllByRecursion, find, list_any}
-use Rattle.net_values.proofs.BoolLemmas.{clash, first_holds, or_later}
+use Rattle.std.specs.List.{find, list_any}
+use Rattle.net_values.proofs.BoolLemmas.{clash, or_later}
 use Rattle.net_base.specs.declared.plan.Plan.{Plan}
 use Rattle.net_base.specs.declared.plan.places.ServiceId.{ServiceId}
 use Rattle.net_base.specs.declared.plan.places.WireId.{WireId}
-use Rattle.net_base.specs.declared.trace.down.Down.{Down}
 use Rattle.net_base.specs.plan.Places.{wire_row}
 use Rattle.pw_signalling.specs.declared.end_role.EndRole.TheVariants as role
 use Rattle.pw_signalling.specs.Down.{down}
 use Rattle.spoke_redundancy.specs.declared.spoke.Spoke.{Spoke}
-use Rattle.spoke_redundancy.specs.Choice.{chosen, comes_before, is_best, is_usable_spoke}
+use Rattle.spoke_redundancy.specs.Choice.{chosen, is_best, is_usable_spoke}
 use Rattle.spoke_redundancy.specs.Least.{IsLeast, is_less, is_usable_below}
 use Rattle.spoke_redundancy.proofs.ChoiceLemmas.{chosen_is, none_is}
 use Rattle.edge_model.specs.declared.end_place.EndPlace.{EndPlace}
 use Rattle.edge_model.specs.EndPlaces.{end_places}
 use Rattle.edge_model.specs.Spokes.{choice, is_spoke_row, is_usable, spoke_at, spoke_places, spokes_of}
 use Rattle.edge_model.specs.State.{EdgeState, end_at}
+use Rattle.flood_laws.proofs.ChoiceLemmas.{IsChoice, choice_is}
 
 -- ---- a usable spoke makes a choice
 
@@ -82,53 +81,13 @@ usable_among edge test wanted (p ∷ ps) place is spoke usable = by (wanted p) i
   by true is rest = (let same : p ≡ place = cc (is) in here same)
   by false is rest = later (rest is)
 
--- ---- an item of a list that passes a test (as in `move_laws`)
-
-pub record IsAmong {A : Type 0} (f : A → Bool) (xs : List A) (x : A) : Type 0 where
-  pub k : ℕ
-  pub at : slice_get xs k ≡ Some x
-  pub passes : f x ≡ true
-
-filter_at : {A : Type 0} (f : A → Bool) (xs : List A) (i : ℕ) (x : A) → slice_get (filter f xs) i ≡ Some x → IsAmong f xs x
-filter_at f [] i x is = absurd (cc (is))
-filter_at {A} f (y ∷ ys) i x is = by (f y) refl (λ j at. filter_at f ys j x at) where
-  later : IsAmong f ys x → IsAmong f (y ∷ ys) x
-  later m = record { k = suc m.k; at = m.at; passes = m.passes }
-
-  here : f y ≡ true → (i : ℕ) → slice_get (y ∷ filter f ys) i ≡ Some x → ((j : ℕ) → slice_get (filter f ys) j ≡ Some x → IsAmong f ys x) → IsAmong f (y ∷ ys) x
-  here passes zero at rest = (let same : y ≡ x = cc (at) in record { k = 0; at = ap Some same; passes = ap f (sym same) ∙ passes })
-  here passes (suc j) at rest = later (rest j at)
-
-  by : (b : Bool) → f y ≡ b → ((j : ℕ) → slice_get (filter f ys) j ≡ Some x → IsAmong f ys x) → IsAmong f (y ∷ ys) x
-  by true passes rest = here passes i (rw passes at is) rest
-  by false fails rest = later (rest i (rw fails at is))
-
--- what holds of each item holds of the one at a place
-pub all_get : {A : Type 0} (P : A → Type 0) (xs : List A) (k : ℕ) (x : A) → AllByRecursion P xs → slice_get xs k ≡ Some x → P x
-all_get P [] k x all is = absurd (cc (is))
-all_get P (y ∷ ys) zero x all is = (let same : y ≡ x = cc (is) in subst P same all.0)
-all_get P (y ∷ ys) (suc k) x all is = all_get P ys k x all.1 is
-
 -- ---- the choice
 
--- the end of a spoke that an edge chooses: it would forward
-pub record IsChoice (plan : Plan) (service : ServiceId) (edge : EdgeState) (wire : WireId) : Type 0 where
-  pub place : EndPlace
-  pub k : ℕ
-  pub at : slice_get (end_places plan edge.me) k ≡ Some place
-  pub wire_is : place.wire ≡ wire
-  pub spoke : is_spoke_row service edge.me (wire_row plan place.wire) ≡ true
-  pub usable : down role.Chosen (edge.bits place.wire.0) (end_at edge place) ≡ None
-
--- and there is one
+-- an edge chooses a spoke, one that would forward
 pub record HasChoice (plan : Plan) (service : ServiceId) (edge : EdgeState) : Type 0 where
   pub wire : WireId
   pub is : choice plan edge service ≡ Some wire
   pub choice_is : IsChoice plan service edge wire
-
-not_some : (o : Option Down) → not (is_some o) ≡ true → o ≡ None
-not_some None is = refl
-not_some (Some x) is = clash is
 
 some_place : {A : Type 0} (xs : List A) (i : ℕ) → i < length xs → is_some (slice_get xs i) ≡ true
 some_place [] i within = absurd (omega (arith, within))
@@ -146,22 +105,6 @@ module _ (plan : Plan) (service : ServiceId) (edge : EdgeState) where
   abbrev spokes : List Spoke
   spokes = spokes_of plan edge service
 
-  found : (i : ℕ) (place : EndPlace) → chosen spokes ≡ Some i → slice_get places i ≡ Some place → IsChoice plan service edge place.wire
-  found i place first at =
-      let best = position-Some (is_best spokes) spokes i (spoke_at edge place) first in
-      let there : slice_get spokes i ≡ Some (spoke_at edge place) = slice_get-map (spoke_at edge) places i ∙ ap (option_map (spoke_at edge)) at in
-      let one : get_or spokes i (spoke_at edge place) ≡ spoke_at edge place = get_or_from_slice_get spokes i (spoke_at edge place) (spoke_at edge place) there in
-      let passes : is_best spokes (spoke_at edge place) ≡ true = subst (λ (s : Spoke). is_best spokes s ≡ true) one best.1 in
-      let among = filter_at (λ (p : EndPlace). is_spoke_row service edge.me (wire_row plan p.wire)) (end_places plan edge.me) i place at in
-      record {
-        place = place;
-        k = among.k;
-        at = among.at;
-        wire_is = refl;
-        spoke = among.passes;
-        usable = not_some (down role.Chosen (edge.bits place.wire.0) (end_at edge place)) (first_holds (is_usable edge place) (not (list_any (comes_before (spoke_at edge place)) spokes)) passes);
-      }
-
   -- an edge with a usable spoke makes a choice
   pub makes_choice : (wanted : EndPlace → Bool) (place : EndPlace) → find wanted (end_places plan edge.me) ≡ Some place → is_spoke_row service edge.me (wire_row plan place.wire) ≡ true
       → down role.Chosen (edge.bits place.wire.0) (end_at edge place) ≡ None → HasChoice plan service edge
@@ -171,11 +114,10 @@ module _ (plan : Plan) (service : ServiceId) (edge : EdgeState) where
 
     by_place : (i : ℕ) → chosen spokes ≡ Some i → (p : Option EndPlace) → slice_get places i ≡ p → is_some p ≡ true → HasChoice plan service edge
     by_place i first None at some = clash some
-    by_place i first (Some q) at some = record {
-      wire = q.wire;
-      is = ap (λ (o : Option ℕ). option_map (λ (p : EndPlace). p.wire) (option_and_then (slice_get places) o)) first ∙ ap (option_map (λ (p : EndPlace). p.wire)) at;
-      choice_is = found i q first at;
-    }
+    by_place i first (Some q) at some =
+        let is : choice plan edge service ≡ Some q.wire =
+        ap (λ (o : Option ℕ). option_map (λ (p : EndPlace). p.wire) (option_and_then (slice_get places) o)) first ∙ ap (option_map (λ (p : EndPlace). p.wire)) at in
+        record { wire = q.wire; is = is; choice_is = choice_is plan service edge q.wire is }
 
     by_number : (o : Option ℕ) → chosen spokes ≡ o → is_some (chosen spokes) ≡ true → HasChoice plan service edge
     by_number None at some = clash (ap is_some (sym at) ∙ some)

@@ -1,8 +1,7 @@
 -- Deliveries keep what is sound.
 use Rattle.std.proofs.Common.{◌≡◌, ◌⊎◌, ◌+◌, ◌&&◌, ◌||◌, ◌==◌, ◌++◌, ◌∙◌, ℕ, Bool, true, false, cond, not, map, nat_eq, length, take, drop, List, [], ◌∷◌, Option, Some, None, option_map, option_and_then, slice_get, inl, inr, refl, sym, ap, subst}
-use Rattle.std.specs.List.{All}
+use Rattle.std.specs.List.{list_all}
 use Rattle.std.proofs.lemmas.Bool.{cases_Bool, eqb-true}
-use Rattle.std.proofs.lemmas.List.Elements.{All-cons, All-head, All-nil, All-tail}
 use Rattle.net_values.proofs.BoolLemmas.{clash, first_holds, second_holds}
 use Rattle.net_base.specs.declared.plan.Plan.{Plan}
 use Rattle.net_base.specs.declared.plan.places.EdgeId.{EdgeId}
@@ -12,7 +11,6 @@ use Rattle.net_base.specs.declared.trace.event.Event.{Event}
 use Rattle.net_base.specs.declared.trace.event.Event.TheVariants.{Deliver}
 use Rattle.net_base.specs.plan.Accepted.{IsChecked}
 use Rattle.net_base.specs.plan.Places.{wire_row}
-use Rattle.net_base.specs.plan.Planned.{IsEventOf}
 use Rattle.net_base.specs.plan.Roles.{is_core_edge, is_spoke_edge}
 use Rattle.spoke_redundancy.specs.declared.spoke.Spoke.{Spoke}
 use Rattle.spoke_redundancy.specs.Choice.{chosen}
@@ -31,11 +29,11 @@ use Rattle.network_model.proofs.RunLemmas.{after-append}
 use Rattle.connection_laws.specs.Laws.{connects_them}
 use Rattle.connection_laws.proofs.NetworkLemmas.{come_by_connections}
 use Rattle.flight_laws.specs.Ends.{HasTypes, IsOrdered}
+use Rattle.flood_laws.specs.Deliveries.{is_delivery}
 use Rattle.flight_laws.specs.Laws.{BothStand, IsRun, network_after}
 use Rattle.flight_laws.proofs.EventLemmas.{deliver_keeps, pipe_edges}
 use Rattle.flight_laws.proofs.RunLemmas.{run_ordered}
 use Rattle.flight_laws.proofs.StayLemmas.{deliver_stays}
-use Rattle.settle_laws.specs.Laws.{are_deliveries}
 use Rattle.settle_laws.specs.Sound.{are_connected, first_is_clear, has_sound_meshes, has_sound_spokes, is_clear, is_connected, is_on_along, is_sound, is_sound_mesh, is_sound_row, is_sound_service, is_sound_spoke, last_is_clear, sound_choice, sound_spoke_at}
 use Rattle.settle_laws.proofs.CalmLemmas.{any_same, below_same, same_tests}
 
@@ -47,7 +45,7 @@ record KeepsSettings (old new : NetworkState) : Type 0 where
   connected : (a b : ℕ) → are_connected new a b ≡ are_connected old a b
 
 -- a service is sound in one state where it is so in another one, and each spoke edge would choose the same sound spoke
-pub record KeepsSound (plan : Plan) (service : ServiceId) (old new : NetworkState) : Type 0 where
+pub record IsSoundAlike (plan : Plan) (service : ServiceId) (old new : NetworkState) : Type 0 where
   pub sound : is_sound_service plan new service ≡ is_sound_service plan old service
   pub choice : (edge : ℕ) → sound_choice plan new service edge ≡ sound_choice plan old service edge
 
@@ -114,7 +112,7 @@ module _ (old new : NetworkState) (keeps : KeepsSettings old new) where
       ap (λ (x : Spoke). x ∷ map (sound_spoke_at plan new edge) places) (at_same plan edge place)
       ∙ ap (λ (l : List Spoke). sound_spoke_at plan old edge place ∷ l) (all_same plan edge places)
 
-  settings_keep : (plan : Plan) (service : ServiceId) → KeepsSound plan service old new
+  settings_keep : (plan : Plan) (service : ServiceId) → IsSoundAlike plan service old new
   settings_keep plan service = record {
     sound = both_same (meshes_same plan service) (spokes_same plan service);
     choice = λ edge. ap (λ (spokes : List Spoke). option_map (λ (place : EndPlace). place.wire) (option_and_then (slice_get (spoke_places plan (record { 0 = edge }) service)) (chosen spokes)))
@@ -185,28 +183,19 @@ delivery_keeps plan from to count network checked types ordered =
 
 -- ---- and so do many
 
-all_keep_sound : (plan : Plan) (service : ServiceId) (deliveries : List Event) (network : NetworkState) → IsChecked plan → HasTypes plan → IsOrdered plan network → are_deliveries deliveries ≡ true
-    → KeepsSound plan service network (state_after plan network deliveries)
+all_keep_sound : (plan : Plan) (service : ServiceId) (deliveries : List Event) (network : NetworkState) → IsChecked plan → HasTypes plan → IsOrdered plan network → list_all is_delivery deliveries ≡ true
+    → IsSoundAlike plan service network (state_after plan network deliveries)
 all_keep_sound plan service [] network checked types ordered are = record { sound = refl; choice = λ edge. refl }
 all_keep_sound plan service (Deliver from to count ∷ rest) network checked types ordered are =
     let now : NetworkState = (step plan network (Deliver from to count)).state in
-    let one : KeepsSound plan service network now = settings_keep network now (delivery_keeps plan from to count network checked types ordered) plan service in
-    let others : KeepsSound plan service now (state_after plan now rest) =
+    let one : IsSoundAlike plan service network now = settings_keep network now (delivery_keeps plan from to count network checked types ordered) plan service in
+    let others : IsSoundAlike plan service now (state_after plan now rest) =
     all_keep_sound plan service rest now checked types (deliver_keeps plan from to count network checked types ordered).ordered are in
     record { sound = others.sound ∙ one.sound; choice = λ edge. others.choice edge ∙ one.choice edge }
 all_keep_sound plan service (event ∷ rest) network checked types ordered are = clash are
 
--- a run up to somewhere
-front_planned : (plan : Plan) (front behind : List Event) → All (IsEventOf plan) (front ++ behind) → All (IsEventOf plan) front
-front_planned plan [] behind all = All-nil (IsEventOf plan)
-front_planned plan (event ∷ front) behind all =
-    All-cons (IsEventOf plan) event front (All-head (IsEventOf plan) event (front ++ behind) all) (front_planned plan front behind (All-tail (IsEventOf plan) event (front ++ behind) all))
-
-pub front_run : (plan : Plan) (front behind : List Event) → IsRun plan (front ++ behind) → IsRun plan front
-front_run plan front behind run = record { checked = run.checked; types = run.types; planned = front_planned plan front behind run.planned }
-
-pub deliveries_sound : (plan : Plan) (events deliveries : List Event) → IsRun plan events → are_deliveries deliveries ≡ true → (service : ServiceId)
-    → KeepsSound plan service (network_after plan events) (network_after plan (events ++ deliveries))
+pub deliveries_sound : (plan : Plan) (events deliveries : List Event) → IsRun plan events → list_all is_delivery deliveries ≡ true → (service : ServiceId)
+    → IsSoundAlike plan service (network_after plan events) (network_after plan (events ++ deliveries))
 deliveries_sound plan events deliveries run are service =
-    subst (KeepsSound plan service (network_after plan events)) (sym (after-append plan (empty_network plan) events deliveries))
+    subst (IsSoundAlike plan service (network_after plan events)) (sym (after-append plan (empty_network plan) events deliveries))
     (all_keep_sound plan service deliveries (network_after plan events) run.checked run.types (run_ordered plan events run) are)

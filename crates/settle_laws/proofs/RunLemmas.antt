@@ -3,6 +3,9 @@ use Rattle.net_base.specs.declared.plan.Plan.{Plan}
 use Rattle.net_base.specs.declared.plan.places.ServiceId.{ServiceId}
 use Rattle.net_base.specs.declared.trace.event.Event.{Event}
 use Rattle.std.proofs.Common.{◌≡◌, ◌++◌, ◌∙◌, true, List}
+use Rattle.std.specs.List.{All}
+use Rattle.std.proofs.lemmas.List.Elements.{All-append}
+use Rattle.net_base.specs.plan.Planned.{IsEventOf}
 use Rattle.network_model.specs.Calm.{is_quiet}
 use Rattle.flight_laws.specs.Laws.{IsRun, network_after}
 use Rattle.flight_laws.proofs.AcrossLemmas.{runs_tell_across}
@@ -14,7 +17,7 @@ use Rattle.flight_laws.proofs.RunLemmas.{run_ordered}
 use Rattle.flood_laws.proofs.ChainLemmas.{runs_tell_in_chains}
 use Rattle.settle_laws.specs.Laws.{DeliveriesKeepChoice, DeliveriesKeepSound, RunsCarrySound, RunsChooseSound, RunsComeToCalm, RunsRestCalm, RunsRestQuiet, RunsSettleCalm}
 use Rattle.settle_laws.proofs.CalmLemmas.{calm_same, carries_same, chooses_sound}
-use Rattle.settle_laws.proofs.KeepLemmas.{deliveries_sound, front_run}
+use Rattle.settle_laws.proofs.KeepLemmas.{deliveries_sound}
 use Rattle.settle_laws.proofs.RestLemmas.{rest_quiet}
 use Rattle.settle_laws.proofs.WireLemmas.{HasSettled}
 
@@ -32,26 +35,30 @@ has_settled plan events service run quiet = record {
 }
 
 pub runs_settle_calm : RunsSettleCalm
-runs_settle_calm plan events run labels service quiet = calm_same plan (network_after plan events) service (has_settled plan events service run quiet) labels
+runs_settle_calm plan events run service labels quiet = calm_same plan (network_after plan events) service (has_settled plan events service run quiet) labels
 
 pub runs_carry_sound : RunsCarrySound
-runs_carry_sound plan events run labels service quiet wire row is ours = carries_same plan (network_after plan events) service (has_settled plan events service run quiet) labels wire row is ours
+runs_carry_sound plan events run service labels quiet wire row is ours = carries_same plan (network_after plan events) service (has_settled plan events service run quiet) labels wire row is ours
 
 pub runs_choose_sound : RunsChooseSound
-runs_choose_sound plan events run labels service quiet edge = chooses_sound plan (network_after plan events) service (has_settled plan events service run quiet) labels edge
+runs_choose_sound plan events run service labels quiet edge = chooses_sound plan (network_after plan events) service (has_settled plan events service run quiet) labels edge
 
 pub runs_rest_quiet : RunsRestQuiet
 runs_rest_quiet plan events run none service = rest_quiet plan events run none service
 
 pub runs_rest_calm : RunsRestCalm
-runs_rest_calm plan events run labels none service = runs_settle_calm plan events run labels service (runs_rest_quiet plan events run none service)
+runs_rest_calm plan events run none service labels = runs_settle_calm plan events run service labels (runs_rest_quiet plan events run none service)
 
 pub deliveries_keep_sound : DeliveriesKeepSound
-deliveries_keep_sound plan events deliveries run are service = (deliveries_sound plan events deliveries run are service).sound
+deliveries_keep_sound plan events run deliveries are service = (deliveries_sound plan events deliveries run are service).sound
 
 pub deliveries_keep_choice : DeliveriesKeepChoice
-deliveries_keep_choice plan events deliveries run are service edge = (deliveries_sound plan events deliveries run are service).choice edge
+deliveries_keep_choice plan events run deliveries are service edge = (deliveries_sound plan events deliveries run are service).choice edge
+
+-- a run goes on with further events of the plan
+run_further : (plan : Plan) (events more : List Event) → IsRun plan events → All (IsEventOf plan) more → IsRun plan (events ++ more)
+run_further plan events more run planned = record { checked = run.checked; types = run.types; planned = All-append (IsEventOf plan) events more run.planned planned }
 
 pub runs_come_to_calm : RunsComeToCalm
-runs_come_to_calm plan events deliveries run are labels none service =
-    runs_rest_calm plan (events ++ deliveries) run labels none service ∙ (deliveries_sound plan events deliveries (front_run plan events deliveries run) are service).sound
+runs_come_to_calm plan events run deliveries planned are none service labels =
+    runs_rest_calm plan (events ++ deliveries) (run_further plan events deliveries run planned) none service labels ∙ (deliveries_sound plan events deliveries run are service).sound

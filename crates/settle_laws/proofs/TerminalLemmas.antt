@@ -26,16 +26,16 @@ use Rattle.edge_model.specs.Across.{held_beyond}
 use Rattle.edge_model.specs.declared.end_place.EndPlace.{EndPlace}
 use Rattle.edge_model.specs.EndPlaces.{end_places, is_end_of_wire, is_named, is_terminal}
 use Rattle.edge_model.specs.Ends.{end_forwards, forwards_at, is_up, wire_end}
-use Rattle.edge_model.specs.Labels.{label_to_give}
 use Rattle.edge_model.specs.Mend.{is_up_with, passed_wish, status_held, status_offered, tells_status, terminal_wish, wish, wish_of}
 use Rattle.edge_model.specs.Role.{end_role_of, is_chosen, own_status, role_in, status_to_tell}
 use Rattle.edge_model.specs.State.{end_at}
 use Rattle.edge_model.proofs.OneEndLemmas.{one_neighbour}
 use Rattle.network_model.specs.State.{NetworkState}
-use Rattle.flight_laws.specs.Binding.{is_withdrawing}
+use Rattle.flight_laws.specs.Binding.{is_idle, is_withdrawing}
 use Rattle.flight_laws.specs.Laws.{BothStand}
 use Rattle.flight_laws.proofs.PlaceLemmas.{Finds, IsEndOf, IsFound, find_holds, find_some, named_is, places_are, same_row}
 use Rattle.flight_laws.proofs.TellLemmas.{tells_own_offer}
+use Rattle.settle_laws.specs.Laws.{HasLabel}
 use Rattle.settle_laws.proofs.EndLemmas.{Fits, fits_up}
 use Rattle.settle_laws.proofs.StatusLemmas.{IsStatusOf, whole_clear}
 use Rattle.settle_laws.proofs.WireLemmas.{HasSettled, TellsWith, agreed, end_same, holds, local_is, mended_here, named, row_is, status_here, tells_expected, undeclined, wished}
@@ -110,7 +110,7 @@ module _ (plan : Plan) (network : NetworkState) (service : ServiceId) (has : Has
       && (tells_status (method_by (offer_of row m.0).status (status_held ((network.edges e.0).ends wire.0 n.0).remote)) || nat_eq ((network.edges e.0).bits wire.0) 0)) me_is))))
 
   -- it tells something, where its wire is on, it is connected, and it has no failure bits
-  pub tells : is_some (label_to_give (network.edges e.0)) ≡ true → BothStand network e.0 n.0 → (network.edges e.0).wire_on wire.0 ≡ true → is_up_with ((network.edges e.0).peering n.0) ≡ true
+  pub tells : HasLabel network wire e.0 n.0 → BothStand network e.0 n.0 → (network.edges e.0).wire_on wire.0 ≡ true → is_up_with ((network.edges e.0).peering n.0) ≡ true
       → nat_eq ((network.edges e.0).bits wire.0) 0 ≡ true → HasTold network wire e.0 n.0
   tells labels both on up clear = by ((network.edges e.0).ends wire.0 n.0).local refl where
     wanted : is_some (wish plan (network.edges e.0) place) ≡ true
@@ -120,7 +120,7 @@ module _ (plan : Plan) (network : NetworkState) (service : ServiceId) (has : Has
       either false = refl
 
     idle : ((network.edges e.0).ends wire.0 n.0).local ≡ Idle false → false ≡ true
-    idle at = rw (ap (λ (s : EndState). s.local) same ∙ at, wanted, labels) at (mended_here plan network service has wire row is ours e n joined)
+    idle at = rw (ap (λ (s : EndState). s.local) same ∙ at, wanted, labels (ap is_idle at)) at (mended_here plan network service has wire row is ours e n joined)
 
     by : (local : LocalPart) → ((network.edges e.0).ends wire.0 n.0).local ≡ local → HasTold network wire e.0 n.0
     by (Idle true) at = absurd (undeclined plan network service has wire row is ours e.0 n.0 joined both at)

@@ -18,7 +18,6 @@ use Rattle.pw_signalling.specs.declared.told.Told.{Told}
 use Rattle.pw_signalling.specs.End.{EndState, Idle, Advertised}
 use Rattle.edge_model.specs.declared.end_place.EndPlace.{EndPlace}
 use Rattle.edge_model.specs.EndPlaces.{end_places, is_named}
-use Rattle.edge_model.specs.Labels.{label_to_give}
 use Rattle.edge_model.specs.Mend.{is_operational, is_up_with, offer_stands, wish, wish_by, wish_of}
 use Rattle.edge_model.specs.Settled.{is_mended, is_told}
 use Rattle.edge_model.specs.State.{EdgeState, end_at}
@@ -26,7 +25,7 @@ use Rattle.network_model.specs.Calm.{is_drained, is_quiet}
 use Rattle.network_model.specs.State.{NetworkState, stands}
 use Rattle.network_model.proofs.WayLemmas.{one_way}
 use Rattle.flight_laws.specs.Across.{PassesOn, TellsAcross}
-use Rattle.flight_laws.specs.Binding.{advertised_by}
+use Rattle.flight_laws.specs.Binding.{advertised_by, is_idle}
 use Rattle.flight_laws.specs.Ends.{IsOrdered}
 use Rattle.flight_laws.specs.Laws.{AreSettled, BothStand, HasAgreed, IsUp, KeepsToldRule}
 use Rattle.flight_laws.specs.Releases.{AllDeclineNone}
@@ -37,9 +36,10 @@ use Rattle.flight_laws.proofs.MendedRunLemmas.{IsMendedAt}
 use Rattle.flight_laws.proofs.PlaceLemmas.{NamedEnd, end_of, find_holds}
 use Rattle.flight_laws.proofs.RuledMendLemmas.{wire_fits}
 use Rattle.flight_laws.proofs.SteadyLemmas.{advertised_up}
-use Rattle.flood_laws.specs.Chain.{HasNoLabel, Tells, TellsInChains, TellsOn, WasDeclined, told_on}
+use Rattle.flood_laws.specs.Chain.{HasNoLabel, Tells, TellsInChains, TellsOn, told_on}
 use Rattle.flood_laws.proofs.ChainLemmas.{has_end}
 use Rattle.flood_laws.proofs.FarLemmas.{are_settled, far_advertises, joined_by}
+use Rattle.settle_laws.specs.Laws.{HasLabel}
 use Rattle.settle_laws.specs.Sound.{are_connected}
 
 -- what holds of a quiet service in a run
@@ -204,7 +204,7 @@ module _ (plan : Plan) (network : NetworkState) (service : ServiceId) (has : Has
       }
 
   -- where its wire is on and it is connected with the other neighbour, it tells on what it is told, if it has a label
-  pub goes_on : (status : Option PwStatus) (x w y : EdgeId) → is_some (label_to_give (network.edges x.0)) ≡ true → (network.edges x.0).wire_on wire.0 ≡ true → are_connected network x.0 y.0 ≡ true
+  pub goes_on : (status : Option PwStatus) (x w y : EdgeId) → HasLabel network wire x.0 y.0 → (network.edges x.0).wire_on wire.0 ≡ true → are_connected network x.0 y.0 ≡ true
       → mate_on row.path x.0 w.0 ≡ Some y → TellsWith network wire status w.0 x.0 → TellsWith network wire status x.0 y.0
   goes_on status x w y labels on connected mated tells =
       by ((has.chains wire row is ours).goes_on w x y tells.content mated (record { label = tells.label; is = tells.is }) on (stands_up x.0 y.0 joined both))
@@ -217,5 +217,4 @@ module _ (plan : Plan) (network : NetworkState) (service : ServiceId) (has : Has
 
       by : TellsOn (network.edges x.0) wire y (told_on plan row x w tells.content) → TellsWith network wire status x.0 y.0
       by (Tells label at) = record { label = label; content = told_on plan row x w tells.content; is = at; status_is = tells.status_is }
-      by (WasDeclined at) = absurd (undeclined x.0 y.0 joined both at)
-      by (HasNoLabel none) = clash (ap is_some (sym none) ∙ labels)
+      by (HasNoLabel idle none) = clash (ap is_some (sym none) ∙ labels (ap is_idle idle))

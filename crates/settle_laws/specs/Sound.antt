@@ -1,5 +1,5 @@
--- When a wire and a service are sound: by the plan, by which wires are on, by failure bits, and by which connections stand. What was
--- signalled is not looked at.
+-- When a wire and a service are sound: by the plan, by which wires are on, by failure bits, and by which connections stand. Nothing that
+-- was signalled is looked at.
 use Rattle.std.specs.Prelude.{◌==◌, ◌&&◌, ◌||◌, not, map, ℕ, Bool, true, false, List, [], ◌∷◌, Option, Some, None, length, option_and_then, option_map, slice_get}
 use Rattle.net_base.specs.declared.plan.Plan.{Plan}
 use Rattle.net_base.specs.declared.plan.offer.Offer.{Offer}
@@ -22,7 +22,7 @@ use Rattle.network_model.specs.State.{NetworkState, stands}
 abbrev pub are_connected : NetworkState → ℕ → ℕ → Bool
 are_connected network a b = stands network a b && stands network b a
 
--- so it is with each two neighbours on a path
+-- each two neighbours on a path are connected so
 abbrev pub is_connected : NetworkState → List EdgeId → Bool
 is_connected network [] = true
 is_connected network (last ∷ []) = true
@@ -37,7 +37,7 @@ is_on_along network wire (edge ∷ rest) = (network.edges edge.0).wire_on wire &
 abbrev pub is_clear : NetworkState → ℕ → EdgeId → Bool
 is_clear network wire edge = (network.edges edge.0).bits wire == 0
 
--- so it is with the first edge of a path, and with the last one
+-- so it is at the first edge of a path, and at the last one
 abbrev pub first_is_clear : NetworkState → ℕ → List EdgeId → Bool
 first_is_clear network wire [] = false
 first_is_clear network wire (first ∷ rest) = is_clear network wire first
@@ -52,24 +52,24 @@ last_is_clear network wire (first ∷ next ∷ rest) = last_is_clear network wir
 abbrev pub do_agree : Offer → Offer → Bool
 do_agree near far = not (differ near.cword far.cword) && (not (differ near.tagged far.tagged) && not (mtus_differ near.mtu far.mtu))
 
--- a wire is sound
+-- a wire with this row is sound: it is on everywhere, its neighbours are connected, both its ends are clear, and its offers agree
 abbrev pub is_sound : NetworkState → ℕ → WirePlan → Bool
 is_sound network wire row =
     (is_on_along network wire row.path && is_connected network row.path)
     && ((first_is_clear network wire row.path && last_is_clear network wire row.path) && do_agree row.near row.far)
 
--- a sound mesh wire between two edges
+-- the wire is a sound mesh wire between two edges
 abbrev pub is_sound_mesh : NetworkState → ServiceId → ℕ → ℕ → ℕ → WirePlan → Bool
 is_sound_mesh network service a b wire row =
     (is_mesh_of service row && ((is_first a row.path && is_last b row.path) || (is_first b row.path && is_last a row.path))) && is_sound network wire row
 
--- each two core edges have one
+-- each two core edges have such a wire
 abbrev pub has_sound_meshes : Plan → NetworkState → ServiceId → Bool
 has_sound_meshes plan network service =
     all_below (length plan.edges) (λ a. all_below (length plan.edges) (λ b.
     not (is_core_edge plan service a && is_core_edge plan service b) || (a == b || any_wire (is_sound_mesh network service a b) 0 plan.wires)))
 
--- a sound spoke of a spoke edge
+-- the wire is a sound spoke of a spoke edge
 abbrev pub is_sound_spoke : NetworkState → ServiceId → ℕ → ℕ → WirePlan → Bool
 is_sound_spoke network service edge wire row = is_spoke_from service edge row && is_sound network wire row
 
@@ -78,18 +78,18 @@ abbrev pub has_sound_spokes : Plan → NetworkState → ServiceId → Bool
 has_sound_spokes plan network service =
     all_below (length plan.edges) (λ edge. not (is_spoke_edge plan service edge) || any_wire (is_sound_spoke network service edge) 0 plan.wires)
 
--- a service is sound
+-- a service is sound: its core edges are joined by sound mesh wires, and its spoke edges by sound spokes
 abbrev pub is_sound_service : Plan → NetworkState → ServiceId → Bool
 is_sound_service plan network service = has_sound_meshes plan network service && has_sound_spokes plan network service
 
 -- ---- which spoke is used
 
--- a wire of this row is sound
+-- a wire is sound, where it has a row
 abbrev pub is_sound_row : NetworkState → ℕ → Option WirePlan → Bool
 is_sound_row network wire None = false
 is_sound_row network wire (Some row) = is_sound network wire row
 
--- a spoke of an edge, which can be chosen where it is sound
+-- a spoke as its spoke edge would choose by: it can be chosen where it is sound
 abbrev pub sound_spoke_at : Plan → NetworkState → ℕ → EndPlace → Spoke
 sound_spoke_at plan network edge place = record { priority = (network.edges edge).priority place.wire.0; usable = is_sound_row network place.wire.0 (wire_row plan place.wire) }
 

@@ -1,9 +1,9 @@
-//! What holds of every service that is quiet in a run of a checked plan.
+//! What signalling that has come to rest has decided, in every run of a checked plan.
 ghost use Rattle.settle_laws.specs.Laws.{DeliveriesKeepChoice, DeliveriesKeepSound, RunsCarrySound, RunsChooseSound, RunsComeToCalm, RunsRestCalm, RunsRestQuiet, RunsSettleCalm};
 
-/// In a state in which a service is quiet, and no edge is out of labels, it is calm exactly where it is sound: each two core edges have a
-/// mesh wire, and each spoke edge a spoke, that is on at each edge of its path, whose neighbours are all connected, whose ends have no
-/// failure bits, and whose two offers agree (RFC 4762 sections 4.4 and 10, RFC 8077 section 6).
+/// A service that is quiet, and of which no end is idle for want of a label, is calm exactly where it is sound: each two core edges have a
+/// mesh wire, and each spoke edge a spoke, that is on at each edge of its path, of which each two neighbours are connected, whose two ends
+/// have no failure bits, and whose two offers agree (RFC 4762 sections 4.4 and 10, RFC 8077 section 6).
 #[tactic(auto, using(crate::proofs::RunLemmas::runs_settle_calm))]
 pub fn runs_settle_calm()
     ensures { RunsSettleCalm }
@@ -29,25 +29,27 @@ pub fn runs_rest_quiet()
     ensures { RunsRestQuiet }
 {}
 
-/// So once there is no next delivery, and no edge is out of labels, each service is calm exactly where it is sound.
+/// So there each service is calm exactly where it is sound, if no end of it is idle for want of a label.
 #[tactic(auto, using(crate::proofs::RunLemmas::runs_rest_calm))]
 pub fn runs_rest_calm()
     ensures { RunsRestCalm }
 {}
 
-/// Deliveries change nothing of what is sound: neither the settings of an edge, nor which connections stand at both ends.
+/// Deliveries change nothing of what is sound: neither the settings of an edge, nor which connections stand at both ends. So a service is
+/// sound after them exactly where it was before.
 #[tactic(auto, using(crate::proofs::RunLemmas::deliveries_keep_sound))]
 pub fn deliveries_keep_sound()
     ensures { DeliveriesKeepSound }
 {}
 
-/// Nor of which sound spoke each spoke edge would choose.
+/// Nor of which one is the best of the sound spokes of each spoke edge.
 #[tactic(auto, using(crate::proofs::RunLemmas::deliveries_keep_choice))]
 pub fn deliveries_keep_choice()
     ensures { DeliveriesKeepChoice }
 {}
 
-/// So a service is calm, once deliveries have come to rest and no edge is out of labels, exactly where it was sound before them.
+/// So it is known before the deliveries what they come to: once there is no next one, a service is calm exactly where it was sound before
+/// them, if no end of it is idle for want of a label.
 #[tactic(auto, using(crate::proofs::RunLemmas::runs_come_to_calm))]
 pub fn runs_come_to_calm()
     ensures { RunsComeToCalm }
