@@ -27,7 +27,7 @@ use Rattle.flood_laws.proofs.WholeLemmas.{runs_keep_wires_whole}
 use Rattle.address_laws.proofs.KnownLemmas.{runs_reach_known}
 use Rattle.address_laws.proofs.PointsLemmas.{runs_keep_points}
 use Rattle.move_laws.proofs.HealLemmas.{runs_heal_moves}
-use Rattle.settle_laws.proofs.RunLemmas.{runs_rest_quiet, runs_settle_calm}
+use Rattle.settle_laws.proofs.RunLemmas.{deliveries_keep_choice, deliveries_keep_sound, runs_carry_sound, runs_come_to_calm, runs_rest_quiet, runs_settle_calm}
 use Rattle.psn_net.specs.declared.net_stop.NetStop.{NetStop}
 use Rattle.psn_net.specs.Lists.{NetLists, network_seen}
 use Rattle.psn_net.specs.Runs.{AreDone, IsRunOf}
@@ -73,9 +73,13 @@ promises_kept plan events run = record {
   taken = λ before after joined from to apart. runs_take_mappings plan before (first before after joined) from to apart;
   chains = λ before after joined. runs_tell_in_chains plan before (first before after joined);
   whole = λ before after joined. runs_keep_wires_whole plan before (first before after joined);
-  stand = λ before after joined. deliveries_end_none plan before (first before after joined);
-  rest = λ before after joined. runs_rest_quiet plan before (first before after joined);
+  carries = λ before after joined. runs_carry_sound plan before (first before after joined);
   calm = λ before after joined. runs_settle_calm plan before (first before after joined);
+  stand = λ before after joined. deliveries_end_none plan before (first before after joined);
+  sound = λ before after joined. deliveries_keep_sound plan before (first before after joined);
+  used = λ before after joined. deliveries_keep_choice plan before (first before after joined);
+  rest = λ before after joined. runs_rest_quiet plan before (first before after joined);
+  comes = λ before after joined. runs_come_to_calm plan before (first before after joined);
   labels = λ before after joined. runs_keep_label_rule plan before (first before after joined);
   contents = λ before after joined. runs_keep_told_rule plan before (first before after joined);
   endings = runs_end_well plan events run;

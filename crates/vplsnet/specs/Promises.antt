@@ -1,5 +1,5 @@
 -- What holds of the run of an accepted scenario.
-use Rattle.std.specs.Prelude.{◌≡◌, ◌++◌, nat_eq, ℕ, true, false, List, Some, None}
+use Rattle.std.specs.Prelude.{◌≡◌, ◌++◌, nat_eq, ℕ, true, false, List, Some}
 use Rattle.net_base.specs.declared.plan.Plan.{Plan}
 use Rattle.net_base.specs.declared.plan.places.EdgeId.{EdgeId}
 use Rattle.net_base.specs.declared.plan.places.ServiceId.{ServiceId}
@@ -13,8 +13,7 @@ use Rattle.net_base.specs.plan.Roles.{are_joined_by}
 use Rattle.net_base.specs.trace.Isolated.{Isolated}
 use Rattle.net_base.specs.trace.Split.{Split}
 use Rattle.network_model.specs.declared.packet.Packet.{Packet}
-use Rattle.network_model.specs.Calm.{is_calm, is_quiet}
-use Rattle.network_model.specs.Delivery.{next_delivery}
+use Rattle.network_model.specs.Calm.{is_quiet}
 use Rattle.network_model.specs.KnownOnce.{KnownOnce}
 use Rattle.network_model.specs.OnceEach.{OnceEach}
 use Rattle.network_model.specs.Packet.{packet_at}
@@ -33,13 +32,16 @@ use Rattle.flood_laws.specs.Shares.{SharesEach}
 use Rattle.flood_laws.specs.SharesReached.{SharesReachedEach}
 use Rattle.address_laws.specs.Laws.{KnownAreReached, PointsLast}
 use Rattle.move_laws.specs.Laws.{MovesHeal}
-use Rattle.settle_laws.specs.Laws.{HasLabels}
-use Rattle.settle_laws.specs.Sound.{is_sound_service}
+use Rattle.settle_laws.specs.Laws.{CarriesWhereSound, ComesToCalm, IsCalmWhereSound, IsQuietAtRest, KeepsSound, KeepsSoundChoice}
 use Rattle.flight_laws.specs.Laws.{AgreesAfterFlight, AreSettled, BothStand, FollowsTable, IsStillBetween, IsUp, KeepsLabelRule, KeepsToldRule, network_after}
 
 -- something holds of each state on the way of a run: before each event, and after the last one
 abbrev pub Throughout : (NetworkState → Type 0) → Plan → List Event → Type 0
 Throughout Holds plan events = (before after : List Event) → events ≡ before ++ after → Holds (network_after plan before)
+
+-- something holds of the events so far, at each moment of a run
+abbrev pub AtEachMoment : (List Event → Type 0) → List Event → Type 0
+AtEachMoment Holds events = (before after : List Event) → events ≡ before ++ after → Holds before
 
 -- the session states of each two ends that stand go with what is on its way between them
 abbrev pub FollowTable : Plan → NetworkState → Type 0
@@ -76,14 +78,6 @@ KeepEchoesApart plan network = (number : ℕ) (packet : Packet) → packet_at ne
 -- deliveries end no connection: two ends that stand do so after each one
 abbrev pub StandThroughDeliveries : Plan → NetworkState → Type 0
 StandThroughDeliveries plan network = (from to : EdgeId) (count a b : ℕ) → BothStand network a b → BothStand (step plan network (Deliver from to count)).state a b
-
--- where nothing can be delivered any more every service is quiet
-abbrev pub AreQuietAtRest : Plan → NetworkState → Type 0
-AreQuietAtRest plan network = next_delivery plan network ≡ None → (service : ServiceId) → is_quiet plan network service ≡ true
-
--- and a quiet service is calm exactly where it is sound, as long as no edge is out of labels
-abbrev pub AreCalmWhereSound : Plan → NetworkState → Type 0
-AreCalmWhereSound plan network = HasLabels network → (service : ServiceId) → is_quiet plan network service ≡ true → is_calm plan network service ≡ is_sound_service plan network service
 
 -- what holds of every run of a scenario
 pub record KeepsPromises (plan : Plan) (events : List Event) : Type 0 where
@@ -137,10 +131,17 @@ pub record KeepsPromises (plan : Plan) (events : List Event) : Type 0 where
   pub taken : Throughout (TakeMappings plan) plan events
   pub chains : Throughout (TellsWhereQuiet plan) plan events
   pub whole : Throughout (IsWholeWhereCalm plan) plan events
-  -- signalling that has come to rest decides nothing more: then what is calm is decided by the plan, the settings and the connections
+  -- what was signalled decides nothing of what signalling comes to: where a service is quiet a wire of it carries frames exactly where it is
+  -- sound and used, and the service is calm exactly where it is sound, by the plan, the settings and the connections
+  pub carries : Throughout (CarriesWhereSound plan) plan events
+  pub calm : Throughout (IsCalmWhereSound plan) plan events
+  -- deliveries end no connection and change nothing of what is sound and used; where no next one is left every service is quiet
   pub stand : Throughout (StandThroughDeliveries plan) plan events
-  pub rest : Throughout (AreQuietAtRest plan) plan events
-  pub calm : Throughout (AreCalmWhereSound plan) plan events
+  pub sound : AtEachMoment (KeepsSound plan) events
+  pub used : AtEachMoment (KeepsSoundChoice plan) events
+  pub rest : Throughout (IsQuietAtRest plan) plan events
+  -- so, at each moment: let octets be delivered alone until no next delivery is left; then a service is calm exactly where it is sound now
+  pub comes : AtEachMoment (ComesToCalm plan) events
   -- wherever a label is named it was given before, and whoever owns it is the end that it is named with; one that is kept waits for the
   -- neighbour of that end, and so neither rests nor is free
   pub labels : Throughout (KeepsLabelRule plan) plan events
