@@ -23,6 +23,14 @@ circuit = [{ name = "ca", edge = "a", service = "s" }, { name = "cb", edge = "b"
 wire = [{ name = "w", service = "s", class = "mesh", path = ["a", "b"], pw_id = 100 }]
 "#;
 
+// Three edges, a wire between the first two, and one over all three.
+const THREE: &str = r#"
+version = 1
+edge = [{ name = "a", address = "10.0.0.1" }, { name = "b", address = "10.0.0.2" }, { name = "c", address = "10.0.0.3" }]
+service = [{ name = "s" }, { name = "t" }]
+wire = [{ name = "w", service = "s", class = "mesh", path = ["a", "b"], pw_id = 100 }, { name = "l", service = "t", class = "mesh", path = ["a", "b", "c"], pw_id = 101 }]
+"#;
+
 /// One of two edges, its link, and what it has put that its peer has not heard.
 #[derive(Drop)]
 pub struct End {
@@ -54,7 +62,16 @@ pub enum Step {
 
 /// An edge of the two before its first call, with a link of which these calls fail.
 pub fn end_of(rt: &impl Abort, alloc: Global, me: EdgeId, fails: &[u64]) -> End {
-    let plan = read_scenario(alloc, PAIR.as_bytes())
+    end_in(rt, alloc, PAIR, me, fails)
+}
+
+/// The same of an edge of three, of which the first two have a wire between them and one that goes on to the third.
+pub fn end_of_three(rt: &impl Abort, alloc: Global, me: EdgeId) -> End {
+    end_in(rt, alloc, THREE, me, &[])
+}
+
+fn end_in(rt: &impl Abort, alloc: Global, text: &str, me: EdgeId, fails: &[u64]) -> End {
+    let plan = read_scenario(alloc, text.as_bytes())
         .expect(rt, "a scenario")
         .plan;
     assert!(rt; (me.0 as usize) < plan.edges.len());

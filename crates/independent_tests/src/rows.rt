@@ -1,7 +1,8 @@
 //! What two edges tell each other of a wire, row by row.
 
 use crate::pair::{
-    A, B, End, Step, calls_so, connected, end_of, has_told, hear, lost, run, set, uses,
+    A, B, End, Step, calls_so, connected, end_of, end_of_three, has_told, hear, lost, run, set,
+    uses,
 };
 use independent_mode::{IndepStop, Wish};
 use ldp_stream::StreamFault;
@@ -251,4 +252,65 @@ fn faults_of_the_stream(rt: HostRuntime) {
     refused(&rt, alloc, b"", b"\x00\x02\x00\x34", 0);
     refused(&rt, alloc, b"", b"\x00\x01\xff\xff", 0);
     refused(&rt, alloc, FIRST, b"\x00\x02\x00\x34", 56);
+}
+
+// Notifications of the second edge, whose octets are put together by hand (RFC 5036 section 3.5.1, RFC 8077 section 6.3.2). The first four
+// tell the status of no wire of two edges.
+
+// Of other status data than 0x28.
+const OTHER_DATUM: &[u8] =
+    b"\x00\x01\x00\x34\x0a\x00\x00\x02\x00\x00\x00\x01\x00\x2a\x00\x00\x00\x01\x03\x00\x00\x0a\x00\x00\x00\x2c\x00\x00\x00\x00\x00\x00\x89\x6a\x00\x04\x00\x00\x00\x00\x01\x00\x00\x0c\x80\x80\x05\x04\x00\x00\x00\x00\x00\x00\x00\x64";
+
+// Without a FEC.
+const NO_FEC: &[u8] =
+    b"\x00\x01\x00\x24\x0a\x00\x00\x02\x00\x00\x00\x01\x00\x1a\x00\x00\x00\x01\x03\x00\x00\x0a\x00\x00\x00\x28\x00\x00\x00\x00\x00\x00\x89\x6a\x00\x04\x00\x00\x00\x00";
+
+// With the FEC of a group, which has no PW ID.
+const NO_PW_ID: &[u8] =
+    b"\x00\x01\x00\x30\x0a\x00\x00\x02\x00\x00\x00\x01\x00\x26\x00\x00\x00\x01\x03\x00\x00\x0a\x00\x00\x00\x28\x00\x00\x00\x00\x00\x00\x89\x6a\x00\x04\x00\x00\x00\x00\x01\x00\x00\x08\x80\x80\x05\x00\x00\x00\x00\x00";
+
+// Of the wire over three edges.
+const LONG_WIRE: &[u8] =
+    b"\x00\x01\x00\x34\x0a\x00\x00\x02\x00\x00\x00\x01\x00\x2a\x00\x00\x00\x01\x03\x00\x00\x0a\x00\x00\x00\x28\x00\x00\x00\x00\x00\x00\x89\x6a\x00\x04\x00\x00\x00\x00\x01\x00\x00\x0c\x80\x80\x05\x04\x00\x00\x00\x00\x00\x00\x00\x65";
+
+// Two in one PDU: the other end asks, and is active.
+const ASKS_THEN_ACTIVE: &[u8] =
+    b"\x00\x01\x00\x62\x0a\x00\x00\x02\x00\x00\x00\x01\x00\x2a\x00\x00\x00\x02\x03\x00\x00\x0a\x00\x00\x00\x28\x00\x00\x00\x00\x00\x00\x89\x6a\x00\x04\x00\x00\x00\x40\x01\x00\x00\x0c\x80\x80\x05\x04\x00\x00\x00\x00\x00\x00\x00\x64\x00\x01\x00\x2a\x00\x00\x00\x03\x03\x00\x00\x0a\x00\x00\x00\x28\x00\x00\x00\x00\x00\x00\x89\x6a\x00\x04\x00\x00\x00\x00\x01\x00\x00\x0c\x80\x80\x05\x04\x00\x00\x00\x00\x00\x00\x00\x64";
+
+// Two in one PDU: the other end is active, and stands by.
+const ACTIVE_THEN_STANDBY: &[u8] =
+    b"\x00\x01\x00\x62\x0a\x00\x00\x02\x00\x00\x00\x01\x00\x2a\x00\x00\x00\x04\x03\x00\x00\x0a\x00\x00\x00\x28\x00\x00\x00\x00\x00\x00\x89\x6a\x00\x04\x00\x00\x00\x00\x01\x00\x00\x0c\x80\x80\x05\x04\x00\x00\x00\x00\x00\x00\x00\x64\x00\x01\x00\x2a\x00\x00\x00\x05\x03\x00\x00\x0a\x00\x00\x00\x28\x00\x00\x00\x00\x00\x00\x89\x6a\x00\x04\x00\x00\x00\x20\x01\x00\x00\x0c\x80\x80\x05\x04\x00\x00\x00\x00\x00\x00\x00\x64";
+
+// Octets of the second edge that change nothing.
+fn ignores(rt: &impl Abort, alloc: Global, end: &mut End, octets: &[u8]) {
+    assert!(rt; hear(rt, alloc, end, B, octets) == Ok(()));
+    assert!(rt; !uses(rt, end));
+    has_told(rt, end, b"\x20\x00");
+}
+
+#[test]
+fn what_tells_no_status_of_a_wire_is_ignored(rt: HostRuntime) {
+    let alloc = rt.alloc();
+    let mut a = end_of_three(&rt, alloc, A);
+    connected(&rt, alloc, &mut a, B).expect(&rt, "connected");
+    assert!(rt; set(&rt, alloc, &mut a, Wish::Active) == Ok(true));
+    ignores(&rt, alloc, &mut a, OTHER_DATUM);
+    ignores(&rt, alloc, &mut a, NO_FEC);
+    ignores(&rt, alloc, &mut a, NO_PW_ID);
+    ignores(&rt, alloc, &mut a, LONG_WIRE);
+}
+
+#[test]
+fn two_messages_in_one_pdu(rt: HostRuntime) {
+    let alloc = rt.alloc();
+    let mut a = end_of_three(&rt, alloc, A);
+    connected(&rt, alloc, &mut a, B).expect(&rt, "connected");
+    assert!(rt; set(&rt, alloc, &mut a, Wish::Active) == Ok(true));
+    // The request is answered, the status behind it is not, and is what is known.
+    assert!(rt; hear(&rt, alloc, &mut a, B, ASKS_THEN_ACTIVE) == Ok(()));
+    has_told(&rt, &a, b"\x20\x00\x00");
+    assert!(rt; uses(&rt, &a));
+    assert!(rt; hear(&rt, alloc, &mut a, B, ACTIVE_THEN_STANDBY) == Ok(()));
+    has_told(&rt, &a, b"\x20\x00\x00");
+    assert!(rt; !uses(&rt, &a));
 }

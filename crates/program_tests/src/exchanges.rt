@@ -35,6 +35,36 @@ uses a w yes
 end lines=4
 ";
 
+// Both ask, before either has heard of it. Each hears a request while it asks itself: the other end does not stand by, so it is active and
+// asks no more, and answers once; the answers change nothing (RFC 6870 section 5).
+const BOTH_ASK: &str = "connect a b
+settle 56
+ask a w
+ask b w
+deliver a b 56
+deliver b a 56
+settle 1
+";
+
+const BOTH_ASK_TEXT: &str = "switchover 1
+> connect a b
+said a b 000100340a00000100000001002a000000010300000a00000028000000000000896a0004000000200100000c808005040000000000000064
+said b a 000100340a00000200000001002a000000010300000a00000028000000000000896a0004000000200100000c808005040000000000000064
+> settle 56
+> ask a w
+said a b 000100340a00000100000001002a000000020300000a00000028000000000000896a0004000000400100000c808005040000000000000064
+> ask b w
+said b a 000100340a00000200000001002a000000020300000a00000028000000000000896a0004000000400100000c808005040000000000000064
+> deliver a b 56
+said b a 000100340a00000200000001002a000000030300000a00000028000000000000896a0004000000000100000c808005040000000000000064
+uses b w yes
+> deliver b a 56
+said a b 000100340a00000100000001002a000000030300000a00000028000000000000896a0004000000000100000c808005040000000000000064
+uses a w yes
+> settle 1
+end lines=7
+";
+
 // Lines that do not apply.
 const IDLE: &str = "deliver a b 9
 cut a b
@@ -56,7 +86,7 @@ idle
 end lines=5
 ";
 
-static DONE: [Case; 3] = [
+static DONE: [Case; 4] = [
     Case {
         taken: Taken::Whole("switchover 1\nend lines=0\n"),
         ..SWITCHOVER
@@ -64,6 +94,11 @@ static DONE: [Case; 3] = [
     Case {
         second: Some(ASK),
         taken: Taken::Whole(ASK_TEXT),
+        ..SWITCHOVER
+    },
+    Case {
+        second: Some(BOTH_ASK),
+        taken: Taken::Whole(BOTH_ASK_TEXT),
         ..SWITCHOVER
     },
     Case {
