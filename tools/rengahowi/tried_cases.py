@@ -1,4 +1,4 @@
-"""The checks of `tools/what-if`: counts by hand, what `tools/summary` says of each case, orders, expectations, its page."""
+"""The checks of `tools/what-if`: counts by hand, what `tools/summary` says of each case, orders, its page."""
 
 from __future__ import annotations
 
@@ -49,12 +49,11 @@ SETTLED_BY_HAND = {
 
 
 def what_ifs(folder: pathlib.Path, gone: set[str]) -> Iterator[Any]:
-    """Cases counted by hand, and as `summary` counts them; expectations, orders, another design, pages, lines, and an interrupt."""
+    """Cases counted by hand, and as `summary` counts them; orders, another design, pages, lines, and an interrupt."""
     yield from by_hand()
     yield from as_summed("frames-cross", "3")
     yield from as_summed(*MOVES)
     yield from ordered(folder)
-    yield from expected(folder)
     yield from compared(folder)
     yield from collected(folder)
     yield from paged(folder)
@@ -124,25 +123,6 @@ def ordered(folder: pathlib.Path) -> Iterator[Any]:
     yield compare("what-if --orders, replayed", any(frame["twice"] for frame in frames), True)
     events = orders["shortest"]["twice"]["events"]
     yield compare("what-if --orders, the shortest", (len(events) < 25, events == read_plan(path).events), (True, True))
-
-
-def expected(folder: pathlib.Path) -> Iterator[Any]:
-    """Expectations that are met, that are not, and that are none."""
-    path, file = EXAMPLES / "spoke-moves.toml", folder / "expect.toml"
-    words = [path, "--from", MOVES[1], "--kinds", "session,priority", "--expect", file]
-    for text, status, said in [
-        ("rounds = 9\ntwice = false\ncalm = true\n", 0, ""),
-        ('split = false\nexcept = ["lose a c"]\n', 0, ""),
-        ("split = false\n", 3, "1 of 7 cases are not as expected; the first is 'lose a c'"),
-        ("rounds = 2\n", 3, "cc lost ca, cx for 3 rounds, and rounds = 2"),
-        ("never = false\n", 3, "a frame never arrives"),
-        ("splits = false\n", 1, "'splits' is no expectation"),
-        ("rounds = -1\n", 1, "a number of rounds"),
-        ("rounds = \n", 1, "is no TOML"),
-    ]:
-        file.write_text(text, encoding="utf-8")
-        done = tool("what-if", *words)
-        yield compare(f"what-if --expect {text!r}", (done[0], said in done[2], done[2].count("\n")), (status, True, int(status > 0)))
 
 
 def compared(folder: pathlib.Path) -> Iterator[Any]:
