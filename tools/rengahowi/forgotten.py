@@ -3,35 +3,38 @@
 from __future__ import annotations
 
 from .checking import Finding
+from .sound import text_of, why_not_sound
 
 TYPE_CHECKING = False
 if TYPE_CHECKING:
     from collections.abc import Iterator
     from typing import Any
 
+    from .network import Network
     from .plan import Plan
 
+# So many reasons why a service is not sound are told.
+MOST = 10
 
-def warnings(plan: Plan) -> Iterator[Any]:
-    """All warnings on a plan and its events."""
+
+def warnings(plan: Plan, connected: Network) -> Iterator[Any]:
+    """All warnings on a plan and its events. The network is that of the plan, with each two neighbours connected."""
     for service in plan.services:
-        yield from mesh_gaps(plan, service)
+        yield from unsound(plan, connected, service)
     yield from never_connected(plan)
     yield from expiring(plan)
 
 
-def mesh_gaps(plan: Plan, service: str) -> Iterator[Any]:
-    """Two core edges of a service without a mesh wire: it is never calm, and sites of the one never hear those of the other."""
-    meshed = {frozenset(wire.ends()) for wire in plan.wires_of(service) if wire.kind == "mesh"}
-    cores = plan.core_edges(service)
-    gaps = [(a, b) for place, a in enumerate(cores) for b in cores[place + 1 :] if frozenset((a, b)) not in meshed]
+def unsound(plan: Plan, connected: Network, service: str) -> Iterator[Any]:
+    """What keeps a service from being sound, also where all is connected: it is never calm, and sites never hear each other."""
+    rows = why_not_sound(connected, service)
     number = list(plan.services).index(service)
-    for a, b in gaps[:10]:
-        text = f"service {service!r}: core edges {a!r} and {b!r} have no mesh wire, so their sites never hear each other"
+    for row in rows[:MOST]:
+        text = f"service {service!r} is never sound: {text_of(row)}, so sites never hear each other"
         yield Finding("", ("service", number), 0, text)
-    if len(gaps) > 10:
-        yield Finding("", ("service", number), 0, f"service {service!r}: {len(gaps) - 10} more pairs of core edges have no mesh wire")
-    yield from turned_spokes(plan, service, {edge for pair in gaps for edge in pair})
+    if len(rows) > MOST:
+        yield Finding("", ("service", number), 0, f"service {service!r} is never sound for {len(rows) - MOST} more reasons")
+    yield from turned_spokes(plan, service, {edge for row in rows if not row["wires"] for edge in row.get("core_edges", [])})
 
 
 def turned_spokes(plan: Plan, service: str, lonely: Any) -> Iterator[Any]:

@@ -253,9 +253,12 @@ class Run:
 
     def send(self, row: list[str]) -> None:
         """A packet is sent, with a copy of a frame, or of a ping."""
-        packet, origin = row[1], row[6]
+        packet, edge, wire, origin = row[1], row[2], row[4], row[6]
         self.network.packets[packet] = row[2:7]
         self.put_under_way(packet, origin)
+        frame = self.frames.get(origin)
+        if frame is not None and frame.is_told and not frame.calm:
+            frame.is_told = self.network.may_send(edge, wire)
 
     def copy(self, row: list[str]) -> None:
         """A packet comes once more under a number of its own."""

@@ -6,6 +6,7 @@ from __future__ import annotations
 import pathlib
 
 from .checking import Finding
+from .sound import differing, said
 
 TYPE_CHECKING = False
 if TYPE_CHECKING:
@@ -14,8 +15,8 @@ if TYPE_CHECKING:
 
     from .plan import Plan
 
-# What the ends of a wire have to tell alike, and how one says of the other that it does not.
-ALIKE = {"mtu": "Mtu", "control_word": "CBit", "mode": "Kind"}
+# How an end says of the other one that the two do not tell alike what they have to.
+CAUSES = {"mtu": "Mtu", "control_word": "CBit", "mode": "Kind"}
 HEADER, TAG = 14, 4
 CLASSIC = {b"\xd4\xc3\xb2\xa1", b"\xa1\xb2\xc3\xd4", b"\x4d\x3c\xb2\xa1", b"\xa1\xb2\x3c\x4d"}
 PCAPNG = b"\x0a\x0d\x0d\x0a"
@@ -37,11 +38,9 @@ def offer_path(plan: Plan, number: int, key: Any) -> tuple[Any, ...]:
 def ends_apart(plan: Plan, number: int, wire: Any) -> Iterator[Any]:
     """Ends of a wire that will not agree."""
     (a, b), (near, far) = wire.ends(), (wire.near, wire.far)
-    for key, cause in ALIKE.items():
-        if near[key] != far[key] and not (key == "mtu" and 0 in (near[key], far[key])):
-            said = [str(it).lower() if isinstance(it, bool) else it for it in (near[key], far[key])]
-            text = f"wire {wire.name!r} never comes up ({cause}): its {key} is {said[0]} at {a!r} and {said[1]} at {b!r}"
-            yield Finding("", offer_path(plan, number, key), 0, text)
+    for key, here, there in differing(wire):
+        text = f"wire {wire.name!r} never comes up ({CAUSES[key]}): its {key} is {said(here)} at {a!r} and {said(there)} at {b!r}"
+        yield Finding("", offer_path(plan, number, key), 0, text)
     common = near["vccv"] & far["vccv"] & (7 if near["control_word"] and far["control_word"] else 6)
     if (near["vccv"] or far["vccv"]) and not common:
         text = f"wire {wire.name!r} has no control channel: its vccv is {near['vccv']} at {a!r} and {far['vccv']} at {b!r}"

@@ -191,6 +191,10 @@ class Network:
         """Whether a wire is up at both terminal edges, and each session along it at both ends."""
         return all(self.ends[edge, wire.name] == UP for edge in wire.ends()) and all(self.is_up(a, b) for a, b in wire.segments())
 
+    def may_send(self, edge: str, wire: str) -> bool:
+        """Whether an edge that sends a packet on a wire has told that its end is up, or is a switching point of it: so it is in every run."""
+        return self.ends.get((edge, wire), UP) == UP
+
     def changes(self) -> list[Wire]:
         """The wires of which something was told since the last change, and that carry frames now and did not then, or the other way
         round."""

@@ -9,7 +9,7 @@ if TYPE_CHECKING:
     from typing import Any
 
     from .network import Network
-    from .plan import Plan, Wire
+    from .plan import Wire
 
 # What the offers of both ends have to say alike (RFC 8077 sections 6.1, 6.4 and 7), in words.
 ALIKE = {"mtu": "MTU", "control_word": "control word", "mode": "mode"}
@@ -94,8 +94,8 @@ def text_of(row: dict[str, Any]) -> str:
     return f"{head} ({wires})" if wires else head
 
 
-def all_connected(plan: Plan, network: Network) -> Network:
-    """A network in which each two neighbours are connected, and nothing else happened."""
-    for a, b in plan.pairs():
+def all_connected(network: Network) -> Network:
+    """A network to which nothing has happened yet, with each two neighbours connected."""
+    for a, b in network.shape.pairs:
         network.apply("connect", (a, b))
     return network

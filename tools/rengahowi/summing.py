@@ -3,7 +3,7 @@
 from __future__ import annotations
 
 from .network import UP
-from .sound import why_not_sound
+from .sound import is_sound, used_wires, why_not_sound
 
 TYPE_CHECKING = False
 if TYPE_CHECKING:
@@ -22,13 +22,14 @@ MOST_SEGMENTS = 12
 
 def sum_up(plan: Plan, run: Run, first: int = 1) -> dict[Any, Any]:
     """All of it; of losses, frames, pings, idle events and drops those from an event on, by its number."""
+    used = {wire.name for service in plan.services for wire in used_wires(run.network, service)}
     return {
         "events": run.count,
         "from": first,
         "ending": run.report.ending,
         "discovery": discovery(run, first),
         "sessions": [session_row(run, *pair) for pair in plan.pairs()],
-        "wires": [wire_row(run, wire) for wire in plan.wires.values()],
+        "wires": [{**wire_row(run, wire), "used": wire.name in used} for wire in plan.wires.values()],
         "services": [service_row(plan, run, service, first) for service in plan.services],
         "frames": [frame_row(frame) for frame in run.frames.values() if frame.event.number >= first],
         "pings": [ping_row(run, ping) for ping in run.pings.all if ping.event.number >= first],
@@ -74,7 +75,7 @@ def wire_row(run: Run, wire: Wire) -> dict[str, Any]:
     states = [run.network.ends[edge, wire.name] for edge in wire.ends()]
     row: dict[str, Any] = {"wire": wire.name, "service": wire.service, "class": wire.kind, "path": list(wire.path), "states": states}
     row["carries"], row["was_up"] = run.network.carries(wire), wire.name in run.ever_carried
-    row["stands_by"] = stands_by(run.network, wire)
+    row["stands_by"], row["sound"] = stands_by(run.network, wire), is_sound(run.network, wire)
     if "Mtu" in states:
         row["mtu"] = [wire.near["mtu"], wire.far["mtu"]]
     return row
