@@ -99,7 +99,6 @@ class Proof:
     """The proof of all crates."""
 
     def __init__(self) -> None:
-        LOGS.mkdir(parents=True, exist_ok=True)
         below = layers()
         self.crates = [Crate(name, below[name]) for name in all_below(below, NAME)]
         self.by_name = {crate.name: crate for crate in self.crates}
