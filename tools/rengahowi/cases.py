@@ -3,18 +3,17 @@
 from __future__ import annotations
 
 import pathlib
-import subprocess
 import tempfile
 from typing import NamedTuple
 
 from .arrivals import Arrivals
+from .called import called, replayed
 from .case_reading import Reading
 from .command import Fault
 from .course import try_silent
 from .failures import Case
 from .frames import follow
 from .probing import Probes
-from . import program
 from .report import read_report
 from .splicing import Spliced
 from .stale import Tables
@@ -114,16 +113,3 @@ def packets_in(octets: bytes) -> int:
 def without_end(octets: bytes) -> bytes:
     """A report without its last line."""
     return octets[: octets.rfind(b"\n", 0, -1) + 1]
-
-
-def replayed(path: str | pathlib.Path) -> bytes:
-    """The report of a scenario, which has to end well."""
-    return called("replay", path)
-
-
-def called(word: str, path: str | pathlib.Path) -> bytes:
-    """What the program makes of a scenario, which has to end well."""
-    done = subprocess.run([program.path(), word, path], stdin=subprocess.DEVNULL, capture_output=True, check=False)
-    if done.returncode != 0:
-        raise Fault(done.stderr.decode(errors="replace").strip() or f"the program ended with status {done.returncode}")
-    return done.stdout

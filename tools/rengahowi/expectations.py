@@ -17,7 +17,7 @@ from .what_if_text import some
 TYPE_CHECKING = False
 if TYPE_CHECKING:
     import pathlib
-    from collections.abc import Iterator
+    from collections.abc import Callable, Iterator
     from typing import Any
 
 WORDS = (str, list)
@@ -162,7 +162,7 @@ def too_long(loss: dict[str, Any], most: str) -> bool:
     return loss["to"] is None or is_split(loss) or round(loss["seconds"] * 1_000_000) > microseconds(most, "within")
 
 
-LATE = {"split": stays_apart, "rounds": too_many_rounds, "ticks": too_many_ticks, "within": too_long}
+LATE: dict[str, Callable[[dict[str, Any], Any], bool]] = {"split": stays_apart, "rounds": too_many_rounds, "ticks": too_many_ticks, "within": too_long}
 
 
 def how_long(loss: dict[str, Any], row: dict[str, Any]) -> str:

@@ -112,17 +112,26 @@ def as_summed(name: str, begin: str) -> Iterator[Any]:
 
 
 def ordered(folder: pathlib.Path) -> Iterator[Any]:
-    """A frame arrives twice in some order, and the shortest scenario that shows it replays."""
-    saved = folder / "saved"
-    found = tried(*MOVES, "--case", "priority x xb 9", "--orders", 12, "--seed", 1, "--save", saved)
-    orders = found["cases"][0]["orders"]
-    yield compare("what-if --orders", (orders["tried"], orders["twice"] > 0, list(orders["shortest"])), (12, True, ["twice"]))
-    path, report = saved / "priority-x-xb-9-twice.toml", folder / "twice.txt"
-    report.write_bytes(run([PROGRAM, "replay", path], folder).stdout)
-    frames = json.loads(tool("summary", "--json", path, report)[1])["frames"]
-    yield compare("what-if --orders, replayed", any(frame["twice"] for frame in frames), True)
-    events = orders["shortest"]["twice"]["events"]
-    yield compare("what-if --orders, the shortest", (len(events) < 25, events == read_plan(path).events), (True, True))
+    """A frame arrives twice, or comes back to where it entered, in some order; the shortest scenario that shows it replays, in a small
+    plan and in one of thirteen edges."""
+    saved, large = folder / "saved", folder / "large.toml"
+    large.write_text(tool("make-plan", "hierarchy", "5", "8", "--spokes", "2")[1], encoding="utf-8")
+    for path, begin, case, count, seed, kinds in [
+        (EXAMPLES / f"{MOVES[0]}.toml", ("--from", MOVES[1]), "priority x xb 9", 12, 1, ["back", "twice"]),
+        (large, (), "lose e0 e5", 12, 1, ["twice"]),
+    ]:
+        words = [path, *begin, "--case", case, "--orders", count, "--seed", seed, "--save", saved, "--json"]
+        (row,) = json.loads(tool("what-if", *words)[1])["cases"]
+        orders = row["orders"]
+        yield compare(f"what-if --orders, {case}", (orders["tried"], sorted(set(orders["shortest"]) - {"never"}), orders["twice"] > 0), (count, kinds, True))
+        for kind in kinds:
+            shortest, report = saved / f"{case.replace(' ', '-')}-{kind}.toml", folder / "report.txt"
+            report.write_bytes(run([PROGRAM, "replay", shortest], folder).stdout)
+            frames = json.loads(tool("summary", "--json", shortest, report)[1])["frames"]
+            seen = [(frame["circuit"] in frame["twice"], frame["twice"] != [frame["circuit"]]) for frame in frames if frame["twice"]]
+            plan = read_plan(shortest)
+            yield compare(f"what-if --orders, {case}, {kind}, replayed", seen, [(kind == "back", kind == "twice")])
+            yield compare(f"what-if --orders, {case}, {kind}, short", (len(plan.events) <= 12, len(plan.edges) <= 4), (True, True))
 
 
 def compared(folder: pathlib.Path) -> Iterator[Any]:

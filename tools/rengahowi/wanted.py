@@ -10,6 +10,7 @@ from .clock import Times, microseconds
 TYPE_CHECKING = False
 if TYPE_CHECKING:
     import pathlib
+    from collections.abc import Mapping
     from typing import Any
 
     from .plan import Plan
@@ -26,7 +27,7 @@ def read_wanted(path: str | pathlib.Path) -> dict[str, Any]:
         raise Fault(f"{path} is no TOML: {fault}") from None
 
 
-def rows_of(path: str | pathlib.Path, found: dict[str, Any], table: str, keys: dict[str, type | tuple[type, ...]]) -> list[dict[str, Any]]:
+def rows_of(path: str | pathlib.Path, found: dict[str, Any], table: str, keys: Mapping[str, Any]) -> list[dict[str, Any]]:
     """The rows of an array of tables, with these keys alone, each of which is of its kind."""
     rows = found.get(table, [])
     if not isinstance(rows, list) or not all(isinstance(row, dict) for row in rows):
