@@ -1,0 +1,15 @@
+pub mod BindLemmas
+pub mod ChoiceLemmas
+pub mod ClearLemmas
+pub mod CountLemmas
+pub mod DueLemmas
+pub mod Examples
+pub mod HearLemmas
+pub mod PutLemmas
+pub mod RiseLemmas
+pub mod StatedLemmas
+pub mod StatusLemmas
+pub mod StepLemmas
+pub mod StillLemmas
+pub mod TakeLemmas
+pub mod WeightLemmas

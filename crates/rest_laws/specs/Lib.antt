@@ -1,0 +1,3 @@
+pub mod Levels
+pub mod Rises
+pub mod Weight

@@ -1,0 +1,17 @@
+//! What an edge puts on hearing a message, and what it weighs.
+ghost use Rattle.rest_laws.specs.Rises.{HearingRises};
+ghost use Rattle.rest_laws.specs.Weight.{FewWeighLess};
+
+/// An edge that has mended hears a message about a wire between it and a peer, which keeps to the plan, and mends: whatever it puts
+/// is of a higher level than the message (RFC 5036 sections 3.5.7, 3.5.10 and 3.5.11, RFC 8077 section 6.3, RFC 4762 section 6.2).
+#[tactic(auto, using(crate::proofs::RiseLemmas::hearing_rises))]
+pub fn hearing_rises()
+    ensures { HearingRises }
+{}
+
+/// By levels messages can be given weights, so that one weighs more than those of higher levels that it makes be put, where these are
+/// no more than so few.
+#[tactic(auto, using(crate::proofs::WeightLemmas::lighter))]
+pub fn few_weigh_less()
+    ensures { FewWeighLess }
+{}
