@@ -247,7 +247,7 @@ def aged(reader: Reader, within: Any, block: Block, text: str) -> None:
         within.age = Said(number, block.line)
 
 
-def kept_alive(reader: Reader, _within: Any, block: Block, text: str) -> None:
+def kept_alive(reader: Reader, _within: Any, block: Block, text: str, *_words: str | None) -> None:
     """The session's KeepAlive time."""
     number = reader.number(block, text, 3, 65535, "keepalive")
     if number is not None:
