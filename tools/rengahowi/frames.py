@@ -49,7 +49,7 @@ class Frame:
         # In a service that is not calm a report of another make may tell too little for a promise.
         self.is_told = self.calm or network.tells_sessions(self.service)
         self.reached = self.sites
-        if not self.calm:
+        if not self.calm and not self.unsettled:
             self.reached = reached(network.plan, reach_of(network, self.service), self.sites, circuit)
         self.heard = False
         self.left: dict[str, int] = {}

@@ -269,8 +269,11 @@ class Network:
     def tells_sessions(self, service: str) -> bool:
         """Whether of each two neighbours of a service that are connected both say that their session is up, and no wire is up over others:
         so it is in every run where the service is quiet, and not in a report that leaves LDP out."""
-        sessions = all(self.is_up(a, b) for a, b in self.shape.of[service].pairs if self.is_connected(a, b))
-        return sessions and all(self.carries(wire) for wire in self.up_wires(service))
+        key = "sessions", service
+        if key not in self.looked:
+            sessions = all(self.is_up(a, b) for a, b in self.shape.of[service].pairs if self.is_connected(a, b))
+            self.looked[key] = sessions and all(self.carries(wire) for wire in self.up_wires(service))
+        return bool(self.looked[key])
 
     def joined(self, service: str) -> set[Any]:
         """The pairs of edges of a service between which a flooded frame finds its way by the wires that carried frames when they were
