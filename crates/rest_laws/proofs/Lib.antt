@@ -1,7 +1,6 @@
 pub mod BindLemmas
 pub mod ChoiceLemmas
 pub mod ClearLemmas
-pub mod CountLemmas
 pub mod DueLemmas
 pub mod Examples
 pub mod HearLemmas

@@ -1,5 +1,5 @@
 -- A message about a wire makes an edge that has mended put messages of higher levels alone.
-use Rattle.std.specs.Prelude.{◌≡◌, ◌+◌, ◌++◌, ℕ, true, List, [], ◌∷◌, Some}
+use Rattle.std.specs.Prelude.{◌≡◌, ◌++◌, ℕ, true, List, Some}
 use Rattle.std.specs.List.{AllByRecursion}
 use Rattle.net_values.specs.declared.addr.Addr.{Addr}
 use Rattle.net_base.specs.declared.plan.Plan.{Plan}
@@ -36,15 +36,6 @@ pub record HasMended (plan : Plan) (edge : EdgeState) : Type 0 where
   pub chosen : (service : ℕ) → edge.chosen service ≡ choice plan edge (record { 0 = service })
 
 -- ---- what an edge puts
-
--- so many messages are said
-abbrev pub says_any : Effect → ℕ
-says_any (Said peer octets) = 1
-says_any effect = 0
-
-abbrev pub said_count : List Effect → ℕ
-said_count [] = 0
-said_count (effect ∷ effects) = says_any effect + said_count effects
 
 -- octets for a peer spell a message about a wire between the two, and it is of a higher level
 pub record IsSaidAbove (plan : Plan) (edges : ℕ → EdgeState) (me least peer : ℕ) (octets : List ℕ) : Type 0 where
