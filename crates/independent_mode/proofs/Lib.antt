@@ -1,3 +1,4 @@
+pub mod ChangedLemmas
 pub mod ReceiverLemmas
 pub mod HearLemmas
 pub mod ListLemmas

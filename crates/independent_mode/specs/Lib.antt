@@ -1,3 +1,4 @@
+pub mod Changed
 pub mod Receiver
 pub mod Heard
 pub mod Lists

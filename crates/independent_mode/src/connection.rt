@@ -97,10 +97,18 @@ impl Connection {
     pub fn new(alloc: Global) -> Result<Connection, NoMemory>
         ensures { IfOk result (λ connection. connection ≡ fresh_connection) }
     {
-        Ok(Connection {
-            stream: Some(PeerStream::new(alloc)?),
+        let stream = PeerStream::new(alloc)?;
+        Ok(Connection::unheard().with_receiver(stream))
+    }
+
+    /// The same by which nothing is heard.
+    pub fn unheard() -> Connection
+        ensures { result ≡ receiver_set Stopped fresh_connection }
+    {
+        Connection {
+            stream: None,
             next_id: 1,
-        })
+        }
     }
 
     /// The number of the next message.

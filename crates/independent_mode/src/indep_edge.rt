@@ -1,11 +1,12 @@
 //! An edge in independent mode.
-ghost use Rattle.std.specs.Prelude.{◌≡◌, ◌<◌, ◌↔◌, ℕ, Some, None, Ok, Err, true, false, is_some, length, IfOk, OnOk};
-ghost use Rattle.net_base.specs.plan.Accepted.{IsChecked};
+ghost use Rattle.std.specs.Prelude.{◌≡◌, ◌<◌, ◌↔◌, ℕ, Some, None, Ok, Err, true, false, is_some, length, IfOk, OnErr, OnOk};
+ghost use Rattle.net_base.specs.{declared.plan.places.EdgeId.{EdgeId}, plan.Accepted.{IsChecked}};
 ghost use Rattle.pw_messages.specs.LinkAnswers.{Agrees, Answers};
 ghost use Rattle.status_exchange.specs.Wish.{is_same_wish};
 ghost use Rattle.independent_model.specs.Calls.{independent_connects, independent_hears, is_connected, loses, sets, uses};
-ghost use Rattle.independent_model.specs.{State.{first_state}, Stops.{EndsBy}, Wires.{other_end}, Work.{Comes, CallsGoOn, NeverRefused}};
-ghost use Rattle.independent_mode.specs.{Lists.{KeepsIndependent, independent_seen}, Receiver.{HoldsBy}};
+ghost use Rattle.independent_model.specs.State.{first_state, fresh_connection, with_connection, with_local};
+ghost use Rattle.independent_model.specs.{Stops.{EndsBy}, Wires.{other_end}, Work.{Comes, CallsGoOn, NeverRefused}};
+ghost use Rattle.independent_mode.specs.{Changed.{ChangesOnly}, Lists.{KeepsIndependent, independent_seen}, Receiver.{HoldsBy}};
 
 mod hearing;
 mod opening;
@@ -43,8 +44,10 @@ impl Model for IndepEdge {
 
 impl IndepEdge {
     /// A connection with a peer stands: each wire with it is told, in the order of the plan, with messages that are numbered from 1. A peer
-    /// is connected from this call on until `lost`, also where this call is refused. The peer shares a wire of two edges, and is not
-    /// connected. `Link` comes exactly where a `put` of this call has failed, which is then the last one.
+    /// is connected from this call on until `lost`, also where this call is refused; nothing but what is kept of it changes. The peer
+    /// shares a wire of two edges, and is not connected. `Link` comes exactly where a `put` of this call has failed, which is then the
+    /// last one.
+    #[tactic(auto, using(crate::proofs::TellLemmas::same_calls, crate::proofs::ChangedLemmas::only_both, crate::proofs::ChangedLemmas::begun_stands))]
     pub fn connected<L: Link>(
         &mut self,
         alloc: Global,
@@ -57,13 +60,31 @@ impl IndepEdge {
         ensures never { NeverRefused result }
         ensures ends { EndsBy (L.calls link.old) (L.calls link.new) result }
         ensures step { (told : Answers) → Agrees told (L.calls link.new) → Comes result (independent_seen self.new) (L.calls link.new) (independent_connects self.old.plan told self.old.me.0 peer (independent_seen self.old) (L.calls link.old)) }
+        ensures stands { is_connected (independent_seen self.new) peer.0 ≡ true }
+        ensures changed { ChangesOnly peer.0 (with_connection peer.0 (Some fresh_connection) (independent_seen self.old)) (independent_seen self.new) }
     {
-        let connection = match Connection::new(alloc) {
-            Ok(connection) => connection,
-            Err(NoMemory) => return Err(IndepStop::NoMemory),
-        };
-        self.put_connection(peer, Some(connection));
-        self.tell_all(alloc, peer, link)
+        match self.begin(alloc, peer) {
+            Ok(()) => self.tell_all(alloc, peer, link),
+            Err(NoMemory) => Err(IndepStop::NoMemory),
+        }
+    }
+
+    // A connection with a peer stands. Where memory is refused, nothing is heard by it.
+    #[tactic(auto, using(crate::proofs::ChangedLemmas::begins_unheard, crate::proofs::ChangedLemmas::begins_twice, crate::proofs::ChangedLemmas::begins_same))]
+    fn begin(&mut self, alloc: Global, peer: EdgeId) -> Result<(), NoMemory>
+        requires within { peer.0 < length self.old.plan.edges }
+        ensures keeps { KeepsIndependent self.old self.new }
+        ensures step { OnOk result (independent_seen self.new ≡ with_connection peer.0 (Some fresh_connection) (independent_seen self.old)) }
+        ensures changed { ChangesOnly peer.0 (with_connection peer.0 (Some fresh_connection) (independent_seen self.old)) (independent_seen self.new) }
+    {
+        self.put_connection(peer, Some(Connection::unheard()));
+        match Connection::new(alloc) {
+            Ok(connection) => {
+                self.put_connection(peer, Some(connection));
+                Ok(())
+            }
+            Err(NoMemory) => Err(NoMemory),
+        }
     }
 
     /// Octets of a peer come, with which the edge is connected. Of the messages that they spell each one that tells the status of a wire with
@@ -102,8 +123,8 @@ impl IndepEdge {
     }
 
     /// The edge calls a wire something else, and tells it where it is connected. It answers false, with no change, exactly where it calls
-    /// the wire so already. `Link` comes exactly where the `put` of this call has failed; the edge calls the wire so all the same. The wire
-    /// has two edges and ends here.
+    /// the wire so already. `Link` comes exactly where the `put` of this call has failed. Where the call is refused the edge calls the wire
+    /// so all the same, and nothing else has changed but what is kept of the other end. The wire has two edges and ends here.
     #[tactic(auto, using(independent_model::proofs::WireLemmas::wire_within, crate::proofs::TellLemmas::same_calls, independent_model::proofs::StopLemmas::none_ends, independent_model::proofs::StopLemmas::comes_err, independent_model::proofs::StopLemmas::never_err))]
     pub fn set<L: Link>(
         &mut self,
@@ -119,6 +140,7 @@ impl IndepEdge {
         ensures ends { EndsBy (L.calls link.old) (L.calls link.new) result }
         ensures same { (result ≡ Ok false) ↔ (is_same_wish ((independent_seen self.old).local wire.0) to ≡ true) }
         ensures step { (told : Answers) → Agrees told (L.calls link.new) → Comes result (independent_seen self.new) (L.calls link.new) (sets self.old.plan told self.old.me.0 wire.0 to (independent_seen self.old) (L.calls link.old)) }
+        ensures changed { OnErr result ((peer : EdgeId) → other_end self.old.plan self.old.me.0 wire.0 ≡ Some peer → ChangesOnly peer.0 (with_local wire.0 to (independent_seen self.old)) (independent_seen self.new)) }
     {
         let wire = wire.0 as usize;
         if self.wish(wire) == to {

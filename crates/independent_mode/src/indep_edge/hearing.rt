@@ -3,8 +3,9 @@ ghost use Rattle.std.specs.Prelude.{◌≡◌, ◌<◌, ◌++◌, ℕ, List, Som
 ghost use Rattle.net_values.specs.Octets.{AreOctets};
 ghost use Rattle.pw_messages.specs.LinkAnswers.{Agrees, Answers};
 ghost use Rattle.independent_mode.specs.{Receiver.{IsTakenOut, IsReceiverWaiting, receiver_of, kept_after}, Heard.{HearsTo}};
+ghost use Rattle.independent_mode.specs.Changed.{ChangesOnly, HearsFront, learns_message, learns_messages, learns_notice};
 ghost use Rattle.independent_mode.specs.{Lists.{KeepsIndependent, independent_seen}, Speaking.{Speaks}};
-ghost use Rattle.independent_model.specs.Hear.{hears_at, independent_hears_message, independent_hears_messages, hears_notice, independent_hears_status};
+ghost use Rattle.independent_model.specs.Hear.{hears_at, independent_hears_message, independent_hears_messages, hears_notice, independent_hears_status, learns};
 ghost use Rattle.independent_model.specs.{State.{with_receiver, with_remote, without_remotes}, Wires.{is_between}};
 ghost use Rattle.independent_model.specs.Work.{Comes, CallsGoOn};
 
@@ -19,6 +20,7 @@ use std::alloc::Global;
 
 impl IndepEdge {
     // The status of a wire with a peer is heard.
+    #[tactic(auto, using(crate::proofs::ChangedLemmas::only_learned, crate::proofs::ChangedLemmas::only_same))]
     pub(crate) fn hear_status<L: Link>(
         &mut self,
         alloc: Global,
@@ -29,7 +31,8 @@ impl IndepEdge {
     ) -> Result<(), IndepStop>
         requires wire { wire < length self.old.plan.wires }
         requires within { peer.0 < length self.old.plan.edges }
-        ensures { Speaks self.old self.new (L.calls link.old) (L.calls link.new) result (λ told. independent_hears_status self.old.plan told self.old.me.0 peer wire status (independent_seen self.old) (L.calls link.old)) }
+        ensures speaks { Speaks self.old self.new (L.calls link.old) (L.calls link.new) result (λ told. independent_hears_status self.old.plan told self.old.me.0 peer wire status (independent_seen self.old) (L.calls link.old)) }
+        ensures changed { ChangesOnly peer.0 (learns wire status (independent_seen self.old)) (independent_seen self.new) }
     {
         let wish = self.wish(wire);
         self.set_remote(wire, Some(status));
@@ -42,6 +45,7 @@ impl IndepEdge {
     }
 
     // A Notification is heard that may tell the status of a wire with the peer.
+    #[tactic(auto, using(crate::proofs::ChangedLemmas::only_same))]
     fn hear_notice<L: Link>(
         &mut self,
         alloc: Global,
@@ -52,7 +56,8 @@ impl IndepEdge {
         link: &mut L,
     ) -> Result<(), IndepStop>
         requires within { peer.0 < length self.old.plan.edges }
-        ensures { Speaks self.old self.new (L.calls link.old) (L.calls link.new) result (λ told. hears_notice self.old.plan told self.old.me.0 peer code status fec (independent_seen self.old) (L.calls link.old)) }
+        ensures speaks { Speaks self.old self.new (L.calls link.old) (L.calls link.new) result (λ told. hears_notice self.old.plan told self.old.me.0 peer code status fec (independent_seen self.old) (L.calls link.old)) }
+        ensures changed { ChangesOnly peer.0 (learns_notice self.old.plan self.old.me.0 peer code status fec (independent_seen self.old)) (independent_seen self.new) }
     {
         let Some(status) = status else {
             return Ok(());
@@ -70,6 +75,7 @@ impl IndepEdge {
     }
 
     // A message is heard.
+    #[tactic(auto, using(crate::proofs::ChangedLemmas::only_same))]
     fn hear_message<L: Link>(
         &mut self,
         alloc: Global,
@@ -78,7 +84,8 @@ impl IndepEdge {
         link: &mut L,
     ) -> Result<(), IndepStop>
         requires within { peer.0 < length self.old.plan.edges }
-        ensures { Speaks self.old self.new (L.calls link.old) (L.calls link.new) result (λ told. independent_hears_message self.old.plan told self.old.me.0 peer message.now (independent_seen self.old) (L.calls link.old)) }
+        ensures speaks { Speaks self.old self.new (L.calls link.old) (L.calls link.new) result (λ told. independent_hears_message self.old.plan told self.old.me.0 peer message.now (independent_seen self.old) (L.calls link.old)) }
+        ensures changed { ChangesOnly peer.0 (learns_message self.old.plan self.old.me.0 peer message.now (independent_seen self.old)) (independent_seen self.new) }
     {
         match message {
             Message::Notification {
@@ -92,7 +99,7 @@ impl IndepEdge {
     }
 
     // Messages are heard in turn.
-    #[tactic(auto, using(crate::proofs::HearLemmas::messages_more, crate::proofs::HearLemmas::messages_end, crate::proofs::TellLemmas::same_calls))]
+    #[tactic(auto, using(crate::proofs::HearLemmas::messages_more, crate::proofs::HearLemmas::messages_end, crate::proofs::TellLemmas::same_calls, crate::proofs::ChangedLemmas::only_same, crate::proofs::ChangedLemmas::one_more_heard, crate::proofs::ChangedLemmas::front_heard, crate::proofs::ChangedLemmas::all_heard_of))]
     fn hear_messages<L: Link>(
         &mut self,
         alloc: Global,
@@ -101,7 +108,9 @@ impl IndepEdge {
         link: &mut L,
     ) -> Result<(), IndepStop>
         requires within { peer.0 < length self.old.plan.edges }
-        ensures { Speaks self.old self.new (L.calls link.old) (L.calls link.new) result (λ told. independent_hears_messages self.old.plan told self.old.me.0 peer messages.now (independent_seen self.old) (L.calls link.old)) }
+        ensures speaks { Speaks self.old self.new (L.calls link.old) (L.calls link.new) result (λ told. independent_hears_messages self.old.plan told self.old.me.0 peer messages.now (independent_seen self.old) (L.calls link.old)) }
+        ensures all { OnOk result (ChangesOnly peer.0 (learns_messages self.old.plan self.old.me.0 peer messages.now (independent_seen self.old)) (independent_seen self.new)) }
+        ensures front { HearsFront self.old.plan self.old.me.0 peer messages.now (independent_seen self.old) (independent_seen self.new) }
     {
         for place in 0..messages.len() {
             match self.hear_message(alloc, peer, &messages[place], link) {

@@ -1,10 +1,10 @@
 //! What an edge calls its wires is told.
 ghost use Rattle.std.specs.Prelude.{◌≡◌, ◌<◌, ℕ, Some, None, Ok, Err, length, slice_get, IfOk};
-ghost use Rattle.net_base.specs.declared.plan.wire_plan.WirePlan.{WirePlan};
+ghost use Rattle.net_base.specs.declared.plan.{places.EdgeId.{EdgeId}, wire_plan.WirePlan.{WirePlan}};
 ghost use Rattle.independent_model.specs.{Calls.{tells_other}, State.{ConnectionState, spoken_once, with_connection}};
 ghost use Rattle.independent_model.specs.{Tell.{octets_on, tells, tells_from}, Wires.{other_end}};
 ghost use Rattle.independent_model.specs.Work.{CallsGoOn, IsPutOnLink, NeverRefused};
-ghost use Rattle.independent_mode.specs.{Lists.{KeepsIndependent, independent_seen}, Speaking.{Speaks}};
+ghost use Rattle.independent_mode.specs.{Changed.{ChangesOnly}, Lists.{KeepsIndependent, independent_seen}, Speaking.{Speaks}};
 
 use crate::notification::notification_octets;
 use crate::{IndepEdge, IndepStop};
@@ -23,10 +23,12 @@ impl IndepEdge {
     }
 
     // The next message to a peer has the next number.
+    #[tactic(auto, using(crate::proofs::ChangedLemmas::only_put_back, crate::proofs::ChangedLemmas::only_none))]
     fn count(&mut self, peer: EdgeId)
         requires within { peer.0 < length self.old.plan.edges }
         ensures keeps { KeepsIndependent self.old self.new }
         ensures step { (kept : ConnectionState) → (independent_seen self.old).connection peer.0 ≡ Some kept → independent_seen self.new ≡ with_connection peer.0 (Some (spoken_once kept)) (independent_seen self.old) }
+        ensures changed { ChangesOnly peer.0 (independent_seen self.old) (independent_seen self.new) }
     {
         if let Some(connection) = self.take_connection(peer) {
             self.put_connection(peer, Some(connection.spoken()));
@@ -34,7 +36,7 @@ impl IndepEdge {
     }
 
     // What the edge calls a wire is told to a peer, where it is connected.
-    #[tactic(auto, using(crate::proofs::TellLemmas::told_none, crate::proofs::TellLemmas::told_ok, crate::proofs::TellLemmas::told_err, crate::proofs::TellLemmas::same_calls))]
+    #[tactic(auto, using(crate::proofs::TellLemmas::told_none, crate::proofs::TellLemmas::told_ok, crate::proofs::TellLemmas::told_err, crate::proofs::TellLemmas::same_calls, crate::proofs::ChangedLemmas::only_same))]
     pub(crate) fn tell<L: Link>(
         &mut self,
         alloc: Global,
@@ -44,7 +46,8 @@ impl IndepEdge {
     ) -> Result<(), IndepStop>
         requires within { peer.0 < length self.old.plan.edges }
         requires wire { wire < length self.old.plan.wires }
-        ensures { Speaks self.old self.new (L.calls link.old) (L.calls link.new) result (λ told. tells self.old.plan told self.old.me.0 peer wire (independent_seen self.old) (L.calls link.old)) }
+        ensures speaks { Speaks self.old self.new (L.calls link.old) (L.calls link.new) result (λ told. tells self.old.plan told self.old.me.0 peer wire (independent_seen self.old) (L.calls link.old)) }
+        ensures changed { ChangesOnly peer.0 (independent_seen self.old) (independent_seen self.new) }
     {
         let Some(id) = self.next_id(peer) else {
             return Ok(());
@@ -70,7 +73,8 @@ impl IndepEdge {
         link: &mut L,
     ) -> Result<(), IndepStop>
         requires wire { wire < length self.old.plan.wires }
-        ensures { Speaks self.old self.new (L.calls link.old) (L.calls link.new) result (λ told. tells_other self.old.plan told self.old.me.0 wire (other_end self.old.plan self.old.me.0 wire) (independent_seen self.old) (L.calls link.old)) }
+        ensures speaks { Speaks self.old self.new (L.calls link.old) (L.calls link.new) result (λ told. tells_other self.old.plan told self.old.me.0 wire (other_end self.old.plan self.old.me.0 wire) (independent_seen self.old) (L.calls link.old)) }
+        ensures changed { (peer : EdgeId) → other_end self.old.plan self.old.me.0 wire ≡ Some peer → ChangesOnly peer.0 (independent_seen self.old) (independent_seen self.new) }
     {
         match self.other_end(wire) {
             Some(peer) => self.tell(alloc, peer, wire, link),
@@ -79,7 +83,7 @@ impl IndepEdge {
     }
 
     // The same of each wire that joins the edge and the peer, in the order of the plan.
-    #[tactic(auto, using(crate::proofs::TellLemmas::from_more, crate::proofs::TellLemmas::from_end, crate::proofs::TellLemmas::same_calls))]
+    #[tactic(auto, using(crate::proofs::TellLemmas::from_more, crate::proofs::TellLemmas::from_end, crate::proofs::TellLemmas::same_calls, crate::proofs::ChangedLemmas::only_same, crate::proofs::ChangedLemmas::only_both))]
     pub(crate) fn tell_all<L: Link>(
         &mut self,
         alloc: Global,
@@ -87,7 +91,8 @@ impl IndepEdge {
         link: &mut L,
     ) -> Result<(), IndepStop>
         requires { peer.0 < length self.old.plan.edges }
-        ensures { Speaks self.old self.new (L.calls link.old) (L.calls link.new) result (λ told. tells_from self.old.plan told self.old.me.0 peer 0 (length self.old.plan.wires) (independent_seen self.old) (L.calls link.old)) }
+        ensures speaks { Speaks self.old self.new (L.calls link.old) (L.calls link.new) result (λ told. tells_from self.old.plan told self.old.me.0 peer 0 (length self.old.plan.wires) (independent_seen self.old) (L.calls link.old)) }
+        ensures changed { ChangesOnly peer.0 (independent_seen self.old) (independent_seen self.new) }
     {
         let count = self.plan.wires.len();
         for wire in 0..count {

@@ -19,8 +19,8 @@ returns-in-Err-hear_messages-clause-step g c = λ told more agrees octets.
     hears_stopped c.args.self.now.plan told c.args.self.now.me.0 c.args.peer (Unit {0}) (Unit {0}) c.in-Err-hear_messages.stop c.pdus.receiver c.next.new.self c.in-Ok-Some.pdu more _
     (independent_seen c.pdus.self) (independent_seen c.hear_messages.new.self) calls after
     (subst (IsNext c.pdus.receiver c.next.new.self) next_is c.next.ensures.next) octets
-    (c.pdus.invariant.step told more (agrees_before told calls after c.hear_messages.ensures.goes agrees) octets)
-    (subst (λ r. NeverRefused r) c.in-Err-hear_messages.is c.hear_messages.ensures.never)
+    (c.pdus.invariant.step told more (agrees_before told calls after c.hear_messages.ensures.speaks.goes agrees) octets)
+    (subst (λ r. NeverRefused r) c.in-Err-hear_messages.is c.hear_messages.ensures.speaks.never)
     (subst (λ r. Comes r (independent_seen c.hear_messages.new.self) after
     (independent_hears_messages c.args.self.now.plan told c.args.self.now.me.0 c.args.peer c.in-Ok-Some.pdu.messages (independent_seen c.pdus.self) calls)) c.in-Err-hear_messages.is
     (subst (λ (p : Plan). Comes c.hear_messages.result (independent_seen c.hear_messages.new.self) after
@@ -29,7 +29,7 @@ returns-in-Err-hear_messages-clause-step g c = λ told more agrees octets.
     (independent_hears_messages c.pdus.self.plan told m.0 c.args.peer c.in-Ok-Some.pdu.messages (independent_seen c.pdus.self) calls)) c.pdus.invariant.keeps.me
     (subst (λ (ms : List Message). Comes c.hear_messages.result (independent_seen c.hear_messages.new.self) after
     (independent_hears_messages c.pdus.self.plan told c.pdus.self.me.0 c.args.peer ms (independent_seen c.pdus.self) calls)) c.as_slice.ensures
-    (c.hear_messages.ensures.step told agrees)))))
+    (c.hear_messages.ensures.speaks.step told agrees)))))
 
 pub returns-in-Err-clause-step : goal.returns-in-Err-clause-step
 returns-in-Err-clause-step g c = λ told more agrees octets.

@@ -1,6 +1,7 @@
-use Rattle.std.proofs.Common.{◌≡◌, drop}
+use Rattle.std.proofs.Common.{◌≡◌, drop, take}
 use Rattle.pw_messages.specs.LinkAnswers.{Agrees, Answers}
 use Rattle.independent_model.specs.Hear.{independent_hears_messages}
+use Rattle.independent_mode.specs.Changed.{ChangesOnly, learns_messages}
 use Rattle.independent_mode.specs.Lists.{KeepsIndependent, independent_seen}
 use Rattle.independent_model.specs.Work.{CallsGoOn}
 use Rattle.independent_mode.proofs.indep_edge.IndepEdge.hear_messages.Given as goal
@@ -12,4 +13,5 @@ invariant-loop-place g l = record {
   step : (told : Answers) → Agrees told (g.L.Link.calls l.link)
       → independent_hears_messages l.fn.self.plan told l.fn.self.me.0 l.peer l.messages (independent_seen l.fn.self) (g.L.Link.calls l.fn.link)
       ≡ independent_hears_messages l.fn.self.plan told l.fn.self.me.0 l.peer (drop l.place l.messages) (independent_seen l.self) (g.L.Link.calls l.link);
+  changed : ChangesOnly l.peer.0 (learns_messages l.fn.self.plan l.fn.self.me.0 l.peer (take l.place l.messages) (independent_seen l.fn.self)) (independent_seen l.self);
 }

@@ -1,5 +1,6 @@
 use Rattle.std.proofs.Common.{◌≡◌, ◌-◌, length}
 use Rattle.pw_messages.specs.LinkAnswers.{Agrees, Answers}
+use Rattle.independent_mode.specs.Changed.{ChangesOnly}
 use Rattle.independent_mode.specs.Lists.{KeepsIndependent, independent_seen}
 use Rattle.independent_model.specs.Tell.{tells_from}
 use Rattle.independent_model.specs.Work.{CallsGoOn}
@@ -12,4 +13,5 @@ invariant-loop-wire g l = record {
   step : (told : Answers) → Agrees told (g.L.Link.calls l.link)
       → tells_from l.fn.self.plan told l.fn.self.me.0 l.peer 0 (length l.fn.self.plan.wires) (independent_seen l.fn.self) (g.L.Link.calls l.fn.link)
       ≡ tells_from l.fn.self.plan told l.fn.self.me.0 l.peer l.wire (length l.fn.self.plan.wires - l.wire) (independent_seen l.self) (g.L.Link.calls l.link);
+  changed : ChangesOnly l.peer.0 (independent_seen l.fn.self) (independent_seen l.self);
 }

@@ -1,0 +1,58 @@
+-- One message more is heard, by the plan and at the place of the edge, which stay.
+use Rattle.std.proofs.Common.{rules, ◌≡◌, ◌<◌, ◌+◌, ◌∙◌, drop, length, slice_index_or, subst}
+use Rattle.net_base.specs.declared.plan.Plan.{Plan}
+use Rattle.net_base.specs.declared.plan.places.EdgeId.{EdgeId}
+use Rattle.ldp_grammar.specs.declared.message.Message.{Message}
+use Rattle.independent_model.specs.Hear.{independent_hears_message, independent_hears_messages}
+use Rattle.independent_model.specs.Work.{Goes}
+use Rattle.independent_mode.specs.Changed.{ChangesOnly, learns_message}
+use Rattle.independent_mode.specs.Lists.{independent_seen}
+use Rattle.independent_mode.proofs.ChangedLemmas.{front_heard, one_more_heard}
+use Rattle.independent_mode.proofs.HearLemmas.{messages_more}
+use Rattle.independent_mode.proofs.TellLemmas.{agrees_before, goes_both, goes_then, keeps_both}
+use Rattle.independent_mode.proofs.indep_edge.IndepEdge.hear_messages.Goals as goal
+
+pub returns-in-Err-clause-front : goal.returns-in-Err-clause-front
+returns-in-Err-clause-front g c =
+    let plan = c.args.self.now.plan in
+    let me = c.args.self.now.me.0 in
+    let message : Message = c.index-messages-place.result in
+    let within : c.loop-place.place < length c.args.messages.now = search rules in
+    let at : message ≡ slice_index_or c.args.messages.now c.loop-place.place message = search rules in
+    front_heard plan me c.args.peer c.args.messages.now (c.loop-place.place + 1) (independent_seen c.args.self.now) (independent_seen c.hear_message.new.self)
+    (one_more_heard plan me c.args.peer c.args.messages.now c.loop-place.place message (independent_seen c.args.self.now) (independent_seen c.loop-place.self)
+    (independent_seen c.hear_message.new.self) within at c.loop-place.invariant.changed
+    (subst (λ (p : Plan). ChangesOnly c.args.peer.0 (learns_message p me c.args.peer message (independent_seen c.loop-place.self)) (independent_seen c.hear_message.new.self))
+    c.loop-place.invariant.keeps.plan
+    (subst (λ (m : EdgeId). ChangesOnly c.args.peer.0 (learns_message c.loop-place.self.plan m.0 c.args.peer message (independent_seen c.loop-place.self)) (independent_seen c.hear_message.new.self))
+    c.loop-place.invariant.keeps.me c.hear_message.ensures.changed)))
+
+pub loop-place-preserved : goal.loop-place-preserved
+loop-place-preserved g c =
+    let plan = c.args.self.now.plan in
+    let me = c.args.self.now.me.0 in
+    let message : Message = c.index-messages-place.result in
+    let calls = g.L.Link.calls c.loop-place.link in
+    let after = g.L.Link.calls c.hear_message.new.link in
+    let within : c.loop-place.place < length c.args.messages.now = search rules in
+    let at : message ≡ slice_index_or c.args.messages.now c.loop-place.place message = search rules in
+    record {
+      keeps = keeps_both c.args.self.now c.loop-place.self c.hear_message.new.self c.loop-place.invariant.keeps c.hear_message.ensures.speaks.keeps;
+      goes = goes_both (g.L.Link.calls c.args.link.now) calls after c.loop-place.invariant.goes c.hear_message.ensures.speaks.goes;
+      step = λ told agrees.
+          c.loop-place.invariant.step told (agrees_before told calls after c.hear_message.ensures.speaks.goes agrees)
+          ∙ goes_then (independent_hears_message plan told me c.args.peer message (independent_seen c.loop-place.self) calls)
+          (independent_hears_messages plan told me c.args.peer (drop c.loop-place.place c.args.messages.now) (independent_seen c.loop-place.self) calls) (independent_seen c.hear_message.new.self) after
+          (λ e k. independent_hears_messages plan told me c.args.peer (drop (c.loop-place.place + 1) c.args.messages.now) e k)
+          (messages_more plan told me c.args.peer c.args.messages.now c.loop-place.place message (independent_seen c.loop-place.self) calls within at)
+          (subst (λ (p : Plan). independent_hears_message p told me c.args.peer message (independent_seen c.loop-place.self) calls ≡ Goes (independent_seen c.hear_message.new.self) after)
+          c.loop-place.invariant.keeps.plan
+          (subst (λ (m : EdgeId). independent_hears_message c.loop-place.self.plan told m.0 c.args.peer message (independent_seen c.loop-place.self) calls
+          ≡ Goes (independent_seen c.hear_message.new.self) after) c.loop-place.invariant.keeps.me (c.in-Ok.ensures.speaks.step told agrees)));
+      changed = one_more_heard plan me c.args.peer c.args.messages.now c.loop-place.place message (independent_seen c.args.self.now) (independent_seen c.loop-place.self)
+          (independent_seen c.hear_message.new.self) within at c.loop-place.invariant.changed
+          (subst (λ (p : Plan). ChangesOnly c.args.peer.0 (learns_message p me c.args.peer message (independent_seen c.loop-place.self)) (independent_seen c.hear_message.new.self))
+          c.loop-place.invariant.keeps.plan
+          (subst (λ (m : EdgeId). ChangesOnly c.args.peer.0 (learns_message c.loop-place.self.plan m.0 c.args.peer message (independent_seen c.loop-place.self))
+          (independent_seen c.hear_message.new.self)) c.loop-place.invariant.keeps.me c.hear_message.ensures.changed));
+    }
