@@ -47,11 +47,11 @@ FRAMES = "return [...new Set(shown.map(row => data.rows[row].f).filter(frame => 
 CLICK = "arguments[0].dispatchEvent(new MouseEvent('click', {bubbles: true}));"
 
 
-def opened(page: Any) -> Any:
-    """A browser of 1,280 pixels with the page in it."""
+def opened(page: Any, width: int = 1280) -> Any:
+    """A browser of so many pixels with the page in it."""
     options = Options()
     options.binary_location = "/usr/bin/chromium"
-    for word in ("--headless", "--no-sandbox", "--disable-gpu", "--hide-scrollbars", "--window-size=1280,900"):
+    for word in ("--headless", "--no-sandbox", "--disable-gpu", "--hide-scrollbars", f"--window-size={width},900"):
         options.add_argument(word)
     browser = webdriver.Chrome(service=Service("/usr/bin/chromedriver"), options=options)
     browser.get(f"file://{page}")

@@ -3,6 +3,7 @@
 from __future__ import annotations
 
 from collections import Counter
+from typing import NamedTuple
 
 from .losses import Losses
 from .pace import Pace
@@ -26,6 +27,18 @@ KINDS = ("never", "twice", "back")
 SETTLED, STANDS = "failed", ("at once", "failed")
 
 
+class Faulty(NamedTuple):
+    """A frame that something is wrong with: its number among those that came, its phase, where it entered, and the sites at which it
+    never left, left twice, or left though it entered there."""
+
+    number: int
+    phase: str
+    circuit: str
+    never: list[str]
+    twice: list[str]
+    back: list[str]
+
+
 class Reading:
     """A report behind the set-up or the first phase: each frame of a phase, and when edges lost and found each other."""
 
@@ -44,7 +57,7 @@ class Reading:
         self.due, self.left = NOTHING, dict[str, int]()
         # How many frames have come, and those that something is wrong with: their number, and the sites.
         self.frames = 0
-        self.faulty: list[tuple[int, int, list[str], list[str]]] = []
+        self.faulty: list[Faulty] = []
         # The last round of each stage in which something was delivered, and from whom to whom something of LDP was.
         self.last = {"failed": 0, "mended": 0}
         self.ways: dict[str, dict[tuple[str, str], None]] = {"failed": {}, "mended": {}}
@@ -138,7 +151,7 @@ class Reading:
             for kind, sites in zip(KINDS, (never, twice, back)):
                 self.found[PHASES[self.phase]][kind].update(sites)
             if never or twice or back:
-                self.faulty.append((self.frames, self.phase, never, twice + back))
+                self.faulty.append(Faulty(self.frames, PHASES[self.phase], frame.circuit, never, twice, back))
         self.frame, self.due, self.left = None, NOTHING, {}
 
     def compare(self, circuit: str) -> None:

@@ -48,6 +48,14 @@ SETTLED_BY_HAND = {
 }
 
 
+# Why frames went wrong in some cells of a page, and the columns that show it: by the way that each had before.
+WHYS: dict[tuple[str, str], Any] = {
+    ("lose a c", "cc"): ["a had no wire towards c that carried frames, or had learned another way, and sent it to b, x alone", ["ca", "a", "c", "cc"]],
+    ("lose a c", "ca"): ["a dropped it: NoLabel", ["cc", "c", "a", "ca"]],
+    ("lose a x", "cx"): ["a had no wire towards x that carried frames, or had learned another way", ["cc", "c", "a", "x", "cx"]],
+}
+
+
 def what_ifs(folder: pathlib.Path, gone: set[str]) -> Iterator[Any]:
     """Cases counted by hand, and as `summary` counts them; orders, another design, pages, lines, and an interrupt."""
     yield from by_hand()
@@ -57,6 +65,7 @@ def what_ifs(folder: pathlib.Path, gone: set[str]) -> Iterator[Any]:
     yield from compared(folder)
     yield from collected(folder)
     yield from paged(folder)
+    yield from side_by_side(folder / "page.html")
     yield from refused(folder)
     yield from interrupted(folder)
 
@@ -168,16 +177,33 @@ def paged(folder: pathlib.Path) -> Iterator[Any]:
     page = folder / "page.html"
     words = [EXAMPLES / "spoke-moves.toml", "--from", MOVES[1], "--kinds", "session,priority", "--page", page]
     status, _, fault = tool("what-if", *words)
-    scripts = xml.etree.ElementTree.fromstring(page.read_text(encoding="utf-8")).iter(f"{HTML}script")
-    data = json.loads(next(script.text or "" for script in scripts if script.get("id") == "data"))
-    yield compare("what-if --page", (status, fault, len(data["cases"]), len(data["ladders"])), (0, "", 7, 7))
-    yield compare("what-if --page, the frame of a cell", data["ladders"][3]["frames"].keys() >= {"ca", "cx"}, True)
+    (plan,) = data_in(page)["plans"]
+    yield compare("what-if --page", (status, fault, len(plan["cases"]), len(plan["ladders"])), (0, "", 7, 7))
+    whys = {(row["case"], site): words for row, ladder in zip(plan["cases"], plan["ladders"]) for site, (_, *words) in ladder["frames"].items()}
+    seen = {key: whys.get(key) for key in WHYS}
+    yield compare("what-if --page, why frames went wrong", seen, WHYS)
     python = "/usr/bin/python3"
     if not pathlib.Path("/usr/bin/chromedriver").exists() or run([python, "-c", "import selenium"], folder).returncode != 0:
         print("python3-selenium or chromium-driver is missing, and no page of what-if is opened in a browser")
         return
     seen = run([python, TOP / "tools" / "rengahowi" / "browser.py", page], folder, text=True).stdout.splitlines()
     yield compare("what-if --page in a browser", [line for line in seen if not line.startswith("wide")], ["cases 7", "cells 12", "ladder True"])
+
+
+def side_by_side(page: pathlib.Path) -> Iterator[Any]:
+    """A page of two scenarios, which has the cases of both, and says of silent ways what was lost there."""
+    path = EXAMPLES / "spoke-moves.toml"
+    words = [path, "--from", MOVES[1], "--kinds", "session,silent", "--case", "lose a c", "--case", "silent a x", "--page", page]
+    status, _, fault = tool("what-if", *words, "--against", path)
+    seen = [(part["scenario"], len(part["cases"]), part["ladders"][1]["frames"]["cx"][1:]) for part in data_in(page)["plans"]]
+    lost = ["what a sent to x was lost: nothing came from a to x", ["cc", "c", "a", "x", "cx"]]
+    yield compare("what-if --page --against", (status, fault, seen), (0, "", [("spoke-moves.toml", 2, lost)] * 2))
+
+
+def data_in(page: pathlib.Path) -> Any:
+    """What a page has of its cases; it has to be XML."""
+    scripts = xml.etree.ElementTree.fromstring(page.read_text(encoding="utf-8")).iter(f"{HTML}script")
+    return json.loads(next(script.text or "" for script in scripts if script.get("id") == "data"))
 
 
 def refused(folder: pathlib.Path) -> Iterator[Any]:

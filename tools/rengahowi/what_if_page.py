@@ -11,6 +11,7 @@ from .colours import of_service
 from .ladder_rows import Rows, columns, lanes
 from .program import with_note
 from .report import Words, events_of
+from .whys import why
 
 TYPE_CHECKING = False
 if TYPE_CHECKING:
@@ -28,14 +29,15 @@ PAGE, LADDER = HERE / "what_if.html", HERE / "ladder.html"
 
 def ladder_of(base: Base, case: Case, reading: Reading, lines: list[str]) -> dict[Any, Any]:
     """The ladder of a case, packed: what switches and is delivered, and of the frames that something is wrong with the first one of
-    each phase and site. And that frame of each site."""
-    chosen, of_site = {}, {}
-    for number, phase, never, twice in reading.faulty:
-        for site in (*twice, *never):
-            if chosen.setdefault((phase, site), number) == number:
-                of_site.setdefault(site, number)
-    wanted = set(chosen.values())
-    kept, origins = kept_lines(lines, wanted)
+    each phase and site. And for each site the first of those frames, why it went wrong in words, and the columns that show it."""
+    chosen: dict[tuple[str, str], int] = {}
+    of_site: dict[str, tuple[int, str, str]] = {}
+    for frame in reading.faulty:
+        for kind, sites in (("twice", frame.twice), ("back", frame.back), ("never", frame.never)):
+            for site in sites:
+                if chosen.setdefault((frame.phase, site), frame.number) == frame.number:
+                    of_site.setdefault(site, (frame.number, kind, frame.circuit))
+    kept, origins = kept_lines(lines, set(chosen.values()))
     first = base.front.count(b"\n")
     words = Words(base.plan, case.name)
     events = events_of(words, ((first + 1 + place, text) for place, text in kept), 1)
@@ -44,10 +46,29 @@ def ladder_of(base: Base, case: Case, reading: Reading, lines: list[str]) -> dic
     found = rows.make()
     changed = {place: lane["states"] for place, lane in enumerate(rows.lanes) if len(lane["states"]) > 1}
     text = json.dumps({"rows": found, "lanes": changed}, separators=(",", ":"))
+    of_frame = lines_of_frames(lines, {number for number, _, _ in of_site.values()})
     return {
         "packed": base64.b64encode(zlib.compress(text.encode(), 9)).decode(),
-        "frames": {site: origins[number] for site, number in of_site.items() if number in origins},
+        "frames": {
+            site: [origins[number], *why(base.network, of_frame[number], kind, circuit, site)]
+            for site, (number, kind, circuit) in of_site.items()
+            if number in origins
+        },
     }
+
+
+def lines_of_frames(lines: list[str], wanted: set[int]) -> dict[int, list[str]]:
+    """The lines of some frames, by their number among the frames: up to what is no arrival and no loss any more."""
+    found: dict[int, list[str]] = {}
+    frames, now = 0, list[str]()
+    for text in lines:
+        if text.startswith("> frame "):
+            frames += 1
+            now = found.setdefault(frames, []) if frames in wanted else []
+        elif text.startswith("> ") and not text.startswith(("> arrive ", "> drop ")):
+            now = []
+        now.append(text)
+    return found
 
 
 def kept_lines(lines: list[str], wanted: Any) -> tuple[Any, ...]:
@@ -58,7 +79,7 @@ def kept_lines(lines: list[str], wanted: Any) -> tuple[Any, ...]:
         if text.startswith("> frame "):
             frames += 1
             keeps = frames in wanted
-        elif text.startswith("> ") and not text.startswith("> arrive "):
+        elif text.startswith("> ") and not text.startswith(("> arrive ", "> drop ")):
             keeps = lines[place + 1 : place + 2] != ["idle"]
         elif text.startswith("in ") and keeps:
             origins[frames] = int(text.split(" ")[2])
@@ -86,8 +107,8 @@ def script(found: dict[str, Any]) -> str:
     return text
 
 
-def page(base: Base, found: dict[str, Any], ladders: list[Any]) -> str:
-    """The page."""
+def part_of(base: Base, found: dict[str, Any], ladders: list[Any]) -> dict[str, Any]:
+    """What the page has of a scenario."""
     plan = base.plan
     shared = {
         "columns": columns(plan),
@@ -96,9 +117,14 @@ def page(base: Base, found: dict[str, Any], ladders: list[Any]) -> str:
         "wires": {wire.name: wire.service for wire in plan.wires.values()},
         "ending": "",
     }
-    data = {**found, "colours": shared["services"], "ladders": ladders, "shared": shared, "page": with_note(LADDER.read_text(encoding="utf-8"))}
+    return {**found, "colours": shared["services"], "ladders": ladders, "shared": shared}
+
+
+def page(parts: list[dict[str, Any]]) -> str:
+    """The page of one scenario, or of two side by side."""
+    data = {"plans": parts, "page": with_note(LADDER.read_text(encoding="utf-8"))}
     text = with_note(PAGE.read_text(encoding="utf-8"))
-    title = found["scenario"].replace("&", "&amp;").replace("<", "&lt;")
+    title = " and ".join(part["scenario"] for part in parts).replace("&", "&amp;").replace("<", "&lt;")
     return text.replace("@TITLE@", title).replace("@DATA@", script(data))
 
 
