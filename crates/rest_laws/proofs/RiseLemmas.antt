@@ -1,14 +1,18 @@
 -- Whatever message about a wire an edge that has mended hears, it puts messages of higher levels alone.
-use Rattle.std.proofs.Common.{◌≡◌, ◌∙◌, ◌||◌, ℕ, Bool, true, false, cond, is_some, nat_eq, List, [], ◌∷◌, Option, Some, None, option_and_then, refl, sym, ap, subst}
+use Rattle.std.proofs.Common.{◌≡◌, ◌≤◌, ◌<◌, ◌+◌, ◌*◌, ◌∙◌, ◌&&◌, ◌||◌, arith, length, map, nat_lt, not, suc, ℕ, Bool, true, false, cond, is_some, nat_eq, List, [], ◌∷◌, Option, Some, None, option_and_then, refl, sym, ap, subst, zero-add}
+use Rattle.std.proofs.lemmas.Bool.Decides.{nat_tests}
 use Rattle.std.proofs.lemmas.Option.{same_Some}
+use Rattle.net_values.specs.declared.addr.Addr.{Addr}
+use Rattle.ldp_grammar.specs.Written.{written}
+use Rattle.pw_messages.specs.Sender.{platform_of}
 use Rattle.std.specs.List.{AllByRecursion}
 use Rattle.net_base.specs.declared.plan.Plan.{Plan}
 use Rattle.net_base.specs.declared.plan.places.EdgeId.{EdgeId}
 use Rattle.net_base.specs.declared.plan.places.WireId.{WireId}
 use Rattle.net_base.specs.declared.plan.wire_plan.WirePlan.{WirePlan}
 use Rattle.net_base.specs.plan.Accepted.{IsChecked}
-use Rattle.net_base.specs.plan.Paths.{expected, joins, offer_of}
-use Rattle.net_base.specs.plan.Places.{wire_row}
+use Rattle.net_base.specs.plan.Paths.{expected, follows, joins, offer_of}
+use Rattle.net_base.specs.plan.Places.{is_mesh_class, wire_row}
 use Rattle.net_base.proofs.CommonLemmas.{same_row}
 use Rattle.net_base.proofs.PathLemmas.{joins_turned}
 use Rattle.net_values.specs.declared.mac.Mac.{Mac}
@@ -43,15 +47,17 @@ use Rattle.flight_laws.specs.Rules.{FarTells, TellsExpected, TellsOfWire}
 use Rattle.flight_laws.proofs.MendedRunLemmas.{IsMendedAt}
 use Rattle.flight_laws.proofs.PlaceLemmas.{IsEndOf, IsNamed, NamedEnd, end_of, named_is}
 use Rattle.flight_laws.proofs.WorksLemmas.{changed_edge}
-use Rattle.rest_laws.specs.Levels.{Saying, Binds, Withdraws, Releases, States, Clears, is_above, is_higher, level, level_at, level_by, level_of, pw_id_of, saying_of}
+use Rattle.rest_laws.specs.Levels.{Saying, Binds, Withdraws, Releases, States, Clears, address_stage, label_stage, levels_end, spoken, status_stage, way_hangs, is_above, is_higher, level, level_at, level_by, level_of, pw_id_of, saying_of}
 use Rattle.rest_laws.proofs.DueLemmas.{PutsMore, PutsWell}
-use Rattle.rest_laws.specs.Rises.{HearingRises, HoldsByPlan, IsByPlan, PutsAbove, SaysAbove}
+use Rattle.rest_laws.specs.Rises.{AreSaidAt, HearingLightens, HearingRises, HoldsByPlan, IsByPlan, PutsAbove, left_above, put_most, said_count}
 use Rattle.rest_laws.proofs.BindLemmas.{HoldsOther, tells_by}
 use Rattle.rest_laws.proofs.ClearLemmas.{clear_rises}
-use Rattle.rest_laws.proofs.HearLemmas.{release_rises}
+use Rattle.rest_laws.proofs.CountLemmas.{count_joined, heard_few}
+use Rattle.rest_laws.proofs.HearLemmas.{release_rises, spoken_few}
 use Rattle.rest_laws.proofs.PutLemmas.{changed_effects}
 use Rattle.rest_laws.proofs.StatedLemmas.{stated_rises}
 use Rattle.rest_laws.proofs.StillLemmas.{mended_puts_none}
+use Rattle.rest_laws.proofs.WeightLemmas.{lighter}
 use Rattle.rest_laws.proofs.TakeLemmas.{holds_other, mapping_by_rule, pw_named, withdraw_by_rule}
 
 -- ---- what is put at an end of the edge is of the end's level
@@ -68,22 +74,60 @@ module _ (plan : Plan) (checked : IsChecked plan) (edges : ℕ → EdgeState) (m
       ∙ (ap (λ (w : WireId). level_by edges w.0 me.0 near.place.peer.0 saying (wire_row plan w)) near.wire_is
       ∙ ap (λ (k : EdgeId). level_by edges place.wire.0 me.0 k.0 saying (wire_row plan place.wire)) near.peer_is)))
 
-  effect_above : (e : Effect) → PutsWell plan me (is_above plan edges me.0 least) e → SaysAbove plan edges me.0 least e
-  effect_above (effect.Said peer octets) well = record {
-    message = well.message;
-    router = well.router;
-    spelled = well.spelled;
-    above = ap (λ (k : ℕ). is_higher least (level_of plan edges me.0 k well.message)) (sym well.beside)
-        ∙ (ap (is_higher least) (level_here well.place well.here well.saying well.message well.says well.names) ∙ well.allowed);
+  -- the levels of what is said
+  record AreAbove (es : List Effect) : Type 0 where
+    levels : List ℕ
+    are : AreSaidAt plan edges me.0 es levels
+    above : AllByRecursion (λ level. least < level) levels
+
+  below : (a b : ℕ) → nat_lt a b ≡ true → a < b
+  below a b is = grind (arith, nat_tests)
+
+  -- a level above, where there is one
+  found_above : (e : EdgeId) (octets : List ℕ) (es : List Effect) (message : Message) (router : Addr) → octets ≡ written message (platform_of router) → (o : Option ℕ) → level_of plan edges me.0 e.0 message ≡ o
+      → is_higher least o ≡ true → AreAbove es → AreAbove (effect.Said e octets ∷ es)
+  found_above e octets es message router spelled None is higher rest = clash higher
+  found_above e octets es message router spelled (Some level) is higher rest = record {
+    levels = level ∷ rest.levels;
+    are = (record { message = message; router = router; spelled = spelled; is = is }, rest.are);
+    above = (below least level higher, rest.above);
   }
-  effect_above e well = tt
 
-  effects_above : (es : List Effect) → AllByRecursion (PutsWell plan me (is_above plan edges me.0 least)) es → AllByRecursion (SaysAbove plan edges me.0 least) es
-  effects_above [] all = tt
-  effects_above (e ∷ es) all = (effect_above e all.0, effects_above es all.1)
+  effects_above : (es : List Effect) → AllByRecursion (PutsWell plan me (is_above plan edges me.0 least)) es → AreAbove es
+  effects_above [] all = record { levels = []; are = tt; above = tt }
+  effects_above (effect.Said peer octets ∷ es) all =
+      let well = all.0 in
+      found_above peer octets es well.message well.router well.spelled (level_of plan edges me.0 peer.0 well.message) refl
+      (ap (λ (k : ℕ). is_higher least (level_of plan edges me.0 k well.message)) (sym well.beside)
+      ∙ (ap (is_higher least) (level_here well.place well.here well.saying well.message well.says well.names) ∙ well.allowed)) (effects_above es all.1)
+  effects_above (e ∷ es) all = (let rest : AreAbove es = effects_above es all.1 in record { levels = rest.levels; are = rest.are; above = rest.above })
 
-  pub puts_above : (old new : List Effect) → PutsMore plan me (is_above plan edges me.0 least) old new → PutsAbove plan edges me.0 least old new
-  puts_above old new puts = record { more = puts.more; joined = puts.joined; above = effects_above puts.more puts.well }
+  one_each : (a b : ℕ) → a ≡ b → suc a ≡ 1 + b
+  one_each a b is = omega (arith, is)
+
+  -- as many levels as messages
+  count_levels : (es : List Effect) (levels : List ℕ) → AreSaidAt plan edges me.0 es levels → length levels ≡ said_count es
+  count_levels [] [] are = refl
+  count_levels [] (l ∷ levels) are = absurd are
+  count_levels (effect.Said peer octets ∷ es) [] are = absurd are
+  count_levels (effect.Said peer octets ∷ es) (l ∷ levels) are = one_each (length levels) (said_count es) (count_levels es levels are.1)
+  count_levels (e ∷ es) levels are = count_levels es levels are ∙ sym (zero-add (said_count es))
+
+  counted : (old more all most : ℕ) → all ≡ old + more → all ≤ old + most → more ≤ most
+  counted old more all most is few = omega (arith, is, few)
+
+  pub puts_above : (most : ℕ) (old new : List Effect) → said_count new ≤ said_count old + most → PutsMore plan me (is_above plan edges me.0 least) old new → PutsAbove plan edges me.0 least most old new
+  puts_above most old new few puts =
+      let found : AreAbove puts.more = effects_above puts.more puts.well in
+      record {
+        more = puts.more;
+        joined = puts.joined;
+        levels = found.levels;
+        are = found.are;
+        above = found.above;
+        few = subst (λ (n : ℕ). n ≤ most) (sym (count_levels puts.more found.levels found.are))
+            (counted (said_count old) (said_count puts.more) (said_count new) most (ap said_count puts.joined ∙ count_joined old puts.more) few);
+      }
 
 -- ---- the end that a message names
 
@@ -272,8 +316,9 @@ held_at plan edge peer place here holds beside =
     subst (λ (k : EdgeId). HoldsByPlan plan edge k) (sym beside) holds place.wire here.row here.is (sym (joins_turned here.row.path edge.me.0 place.peer.0) ∙ here.joined)
 
 pub hearing_rises : HearingRises
-hearing_rises plan checked edges peer message least work has bits holds by_plan level_is =
-    puts_above plan checked edges work.edge.me least work.effects (mends plan taken_all (acts_on plan taken_all peer message work)).effects
+hearing_rises plan checked edges peer message least work there has bits holds by_plan level_is =
+    puts_above plan checked edges work.edge.me least (put_most plan work.edge.me message) work.effects (mends plan taken_all (acts_on plan taken_all peer message work)).effects
+    (heard_few plan peer message names.saying work there names.says)
     (subst (λ (n : ℕ). PutsMore plan work.edge.me (is_above plan edges work.edge.me.0 n) work.effects (mends plan taken_all (acts_on plan taken_all peer message work)).effects) names.is
     (subst (λ (k : EdgeId). PutsMore plan work.edge.me (is_above plan edges work.edge.me.0 (level edges names.place.wire.0 names.here.row k.0 work.edge.me.0 names.saying)) work.effects
     (mends plan taken_all (acts_on plan taken_all k message work)).effects) names.peer_is
@@ -286,3 +331,64 @@ hearing_rises plan checked edges peer message least work has bits holds by_plan 
 
     names : NamesEnd plan edges peer work.edge.me message least
     names = names_end plan checked edges peer work.edge.me message least level_is
+
+-- ---- weights
+
+-- each level is below the end of levels
+label_below : (stage n c : ℕ) → stage ≤ 16 → n ≤ 4 → c ≤ 2 → stage + (3 * n + c) < 112
+label_below stage n c one other small = omega (arith, one, other, small)
+
+label_stage_low : (hangs : Bool) → label_stage hangs ≤ 16
+label_stage_low true = omega arith
+label_stage_low false = omega arith
+
+withdraws_below : (stage n : ℕ) → stage ≤ 16 → n ≤ 4 → stage + 3 * n < 112
+withdraws_below stage n one other = omega (arith, one, other)
+
+states_below : (spoke : Bool) (n : ℕ) → n ≤ 4 → status_stage spoke + n < 112
+states_below true n few = omega (arith, few)
+states_below false n few = omega (arith, few)
+
+clears_below : (mesh onward : Bool) (n : ℕ) → n ≤ 4 → address_stage mesh onward + n < 112
+clears_below true onward n few = omega (arith, few)
+clears_below false true n few = omega (arith, few)
+clears_below false false n few = omega (arith, few)
+
+level_below : (edges : ℕ → EdgeState) (wire : ℕ) (row : WirePlan) (from to : ℕ) (saying : Saying) → spoken row from to ≤ 4 → spoken row to from ≤ 4 → level edges wire row from to saying < levels_end
+level_below edges wire row from to Binds on back = label_below (label_stage (way_hangs edges wire row from to)) (spoken row from to) 2 (label_stage_low (way_hangs edges wire row from to)) on (omega arith)
+level_below edges wire row from to Withdraws on back = withdraws_below (label_stage (way_hangs edges wire row from to)) (spoken row from to) (label_stage_low (way_hangs edges wire row from to)) on
+level_below edges wire row from to Releases on back = label_below (label_stage (way_hangs edges wire row to from)) (spoken row to from) 1 (label_stage_low (way_hangs edges wire row to from)) back (omega arith)
+level_below edges wire row from to States on back = states_below (not (is_mesh_class row.class) && follows row.path from to) (spoken row from to) on
+level_below edges wire row from to Clears on back = clears_below (is_mesh_class row.class) (follows row.path from to) (spoken row from to) on
+
+fewer_left : (least level : ℕ) → least < level → least < levels_end → left_above level < left_above least
+fewer_left least level above low = omega (arith, above, low)
+
+all_fewer : (least : ℕ) (levels : List ℕ) → least < levels_end → AllByRecursion (λ level. least < level) levels → AllByRecursion (λ n. n < left_above least) (map left_above levels)
+all_fewer least [] low all = tt
+all_fewer least (level ∷ levels) low all = (fewer_left least level all.0 low, all_fewer least levels low all.1)
+
+mapped_length : (levels : List ℕ) → length (map left_above levels) ≡ length levels
+mapped_length [] = refl
+mapped_length (level ∷ levels) = ap suc (mapped_length levels)
+
+enough_left : (a b c d : ℕ) → a ≡ b → b ≤ c → c ≤ d → a ≤ d
+enough_left a b c d is one other = omega (arith, is, one, other)
+
+pub hearing_lightens : HearingLightens
+hearing_lightens plan checked edges me peer message least few old new level_is puts enough =
+    lighter few (left_above least) (map left_above puts.levels)
+    (enough_left (length (map left_above puts.levels)) (length puts.levels) (put_most plan me message) few (mapped_length puts.levels) puts.few enough)
+    (all_fewer least puts.levels low puts.above)
+  where
+    names : NamesEnd plan edges peer me message least
+    names = names_end plan checked edges peer me message least level_is
+
+    joined : joins me.0 peer.0 names.here.row.path ≡ true
+    joined = ap (λ (k : EdgeId). joins me.0 k.0 names.here.row.path) (sym names.peer_is) ∙ names.here.joined
+
+    low : least < levels_end
+    low = subst (λ (n : ℕ). n < levels_end) names.is
+        (level_below edges names.place.wire.0 names.here.row peer.0 me.0 names.saying
+        (spoken_few plan checked names.place.wire names.here.row peer.0 me.0 names.here.is (sym (joins_turned names.here.row.path me.0 peer.0) ∙ joined))
+        (spoken_few plan checked names.place.wire names.here.row me.0 peer.0 names.here.is joined))

@@ -1,5 +1,5 @@
 -- A message about a wire makes an edge that has mended put messages of higher levels alone.
-use Rattle.std.specs.Prelude.{◌≡◌, ◌++◌, ℕ, true, List, Some}
+use Rattle.std.specs.Prelude.{◌≡◌, ◌≤◌, ◌<◌, ◌+◌, ◌-◌, ◌*◌, ◌++◌, ℕ, suc, true, List, [], ◌∷◌, Some, length, map}
 use Rattle.std.specs.List.{AllByRecursion}
 use Rattle.net_values.specs.declared.addr.Addr.{Addr}
 use Rattle.net_base.specs.declared.plan.Plan.{Plan}
@@ -10,8 +10,9 @@ use Rattle.net_base.specs.plan.Accepted.{IsChecked}
 use Rattle.net_base.specs.plan.Paths.{expected, joins}
 use Rattle.net_base.specs.plan.Places.{wire_row}
 use Rattle.ldp_grammar.specs.declared.message.Message.{Message}
-use Rattle.ldp_grammar.specs.declared.message.Message.TheVariants.{LabelMapping, Notification}
+use Rattle.ldp_grammar.specs.declared.message.Message.TheVariants.{AddressWithdraw, LabelMapping, LabelWithdraw, Notification}
 use Rattle.ldp_grammar.specs.Written.{written}
+use Rattle.mac_withdraw.specs.Pieces.{pieces_of}
 use Rattle.pw_messages.specs.Content.{told_with}
 use Rattle.pw_messages.specs.Sender.{platform_of}
 use Rattle.edge_model.specs.declared.effect.Effect.{Effect}
@@ -23,11 +24,12 @@ use Rattle.edge_model.specs.Mend.{mends}
 use Rattle.edge_model.specs.Settled.{is_mended, is_told}
 use Rattle.edge_model.specs.Signal.{end_of_fec, takes_content}
 use Rattle.edge_model.specs.Spokes.{choice}
-use Rattle.edge_model.specs.State.{EdgeState}
+use Rattle.edge_model.specs.State.{EdgeState, has_end}
 use Rattle.edge_model.specs.Work.{Work}
 use Rattle.network_model.specs.Absorb.{taken_all}
 use Rattle.flight_laws.specs.Rules.{FarTells, TellsOfWire}
-use Rattle.rest_laws.specs.Levels.{is_higher, level_of}
+use Rattle.rest_laws.specs.Levels.{level_of, levels_end}
+use Rattle.rest_laws.specs.Weight.{heavy, total}
 
 -- the edge has mended: each of its ends tells what it should, the status of now among it, and it has chosen among its spokes
 pub record HasMended (plan : Plan) (edge : EdgeState) : Type 0 where
@@ -37,23 +39,50 @@ pub record HasMended (plan : Plan) (edge : EdgeState) : Type 0 where
 
 -- ---- what an edge puts
 
--- octets for a peer spell a message about a wire between the two, and it is of a higher level
-pub record IsSaidAbove (plan : Plan) (edges : ℕ → EdgeState) (me least peer : ℕ) (octets : List ℕ) : Type 0 where
+-- so many messages are said
+abbrev pub says_any : Effect → ℕ
+says_any (Said peer octets) = 1
+says_any effect = 0
+
+abbrev pub said_count : List Effect → ℕ
+said_count [] = 0
+said_count (effect ∷ effects) = says_any effect + said_count effects
+
+-- octets for a peer spell a message about a wire between the two, of this level
+pub record IsSaidAt (plan : Plan) (edges : ℕ → EdgeState) (me level peer : ℕ) (octets : List ℕ) : Type 0 where
   pub message : Message
   pub router : Addr
   pub spelled : octets ≡ written message (platform_of router)
-  pub above : is_higher least (level_of plan edges me peer message) ≡ true
+  pub is : level_of plan edges me peer message ≡ Some level
 
--- so it is with an effect that says anything
-abbrev pub SaysAbove : Plan → (ℕ → EdgeState) → (me least : ℕ) → Effect → Type 0
-SaysAbove plan edges me least (Said peer octets) = IsSaidAbove plan edges me least peer.0 octets
-SaysAbove plan edges me least effect = Unit {0}
+-- whatever is said is of these levels, in turn
+abbrev pub AreSaidAt : Plan → (ℕ → EdgeState) → (me : ℕ) → List Effect → List ℕ → Type 0
+AreSaidAt plan edges me [] [] = Unit {0}
+AreSaidAt plan edges me [] (level ∷ levels) = ⊥
+AreSaidAt plan edges me (Said peer octets ∷ effects) [] = ⊥
+AreSaidAt plan edges me (Said peer octets ∷ effects) (level ∷ levels) = IsSaidAt plan edges me level peer.0 octets × AreSaidAt plan edges me effects levels
+AreSaidAt plan edges me (effect ∷ effects) levels = AreSaidAt plan edges me effects levels
 
--- more is given out, and whatever is said of it is so
-pub record PutsAbove (plan : Plan) (edges : ℕ → EdgeState) (me least : ℕ) (old new : List Effect) : Type 0 where
+-- more is given out, and whatever is said of it is of a level above this one; of so many messages at most
+pub record PutsAbove (plan : Plan) (edges : ℕ → EdgeState) (me least most : ℕ) (old new : List Effect) : Type 0 where
   pub more : List Effect
   pub joined : new ≡ old ++ more
-  pub above : AllByRecursion (SaysAbove plan edges me least) more
+  pub levels : List ℕ
+  pub are : AreSaidAt plan edges me more levels
+  pub above : AllByRecursion (λ level. least < level) levels
+  pub few : length levels ≤ most
+
+-- so many messages answer one at most: a Label Mapping that is refused, or a Label Withdraw, is answered once, and a withdrawal of
+-- addresses goes on in pieces by each port of the service, or beyond a switching point
+abbrev pub answers_most : Plan → Message → ℕ
+answers_most plan (LabelMapping id fec label status points) = 1
+answers_most plan (LabelWithdraw id fec label) = 1
+answers_most plan (AddressWithdraw id addresses fec (Some macs)) = suc (length plan.circuits + length plan.wires) * length (pieces_of macs)
+answers_most plan message = 0
+
+-- and an edge that mends puts three at each of its ends at most
+abbrev pub put_most : Plan → EdgeId → Message → ℕ
+put_most plan me message = answers_most plan message + 3 * length (end_places plan me)
 
 -- ---- what an edge hears
 
@@ -71,8 +100,20 @@ IsByPlan plan edge peer (Notification id code status (Some fec)) =
     (wire : WireId) (row : WirePlan) → wire_row plan wire ≡ Some row → joins peer.0 edge.me.0 row.path ≡ true → fec.pw_id ≡ Some row.pw_id → (expected plan row peer.0 edge.me.0).offer.status ≡ true
 IsByPlan plan edge peer message = Unit {0}
 
--- An edge that has mended acts on a message from a peer and mends: whatever it puts is of a higher level than the message.
+-- An edge that has mended, and whose end of the connection with a peer stands, acts on a message from the peer and mends: whatever it puts is of a higher level than the message.
 abbrev pub HearingRises : Type 0
-HearingRises = (plan : Plan) → IsChecked plan → (edges : ℕ → EdgeState) (peer : EdgeId) (message : Message) (least : ℕ) (work : Work) → HasMended plan work.edge
+HearingRises = (plan : Plan) → IsChecked plan → (edges : ℕ → EdgeState) (peer : EdgeId) (message : Message) (least : ℕ) (work : Work) → has_end work.edge peer ≡ true → HasMended plan work.edge
     → (edges work.edge.me.0).bits ≡ work.edge.bits → HoldsByPlan plan work.edge peer → IsByPlan plan work.edge peer message → level_of plan edges peer.0 work.edge.me.0 message ≡ Some least
-    → PutsAbove plan edges work.edge.me.0 least work.effects (mends plan taken_all (acts_on plan taken_all peer message work)).effects
+    → PutsAbove plan edges work.edge.me.0 least (put_most plan work.edge.me message) work.effects (mends plan taken_all (acts_on plan taken_all peer message work)).effects
+
+-- ---- weights
+
+-- so many levels are left above one
+abbrev pub left_above : ℕ → ℕ
+left_above level = levels_end - level
+
+-- So what it puts weighs less than the message that it heard, by any weights by which one message weighs more than so many of higher levels.
+abbrev pub HearingLightens : Type 0
+HearingLightens = (plan : Plan) → IsChecked plan → (edges : ℕ → EdgeState) (me peer : EdgeId) (message : Message) (least few : ℕ) (old new : List Effect) → level_of plan edges peer.0 me.0 message ≡ Some least
+    → (puts : PutsAbove plan edges me.0 least (put_most plan me message) old new) → put_most plan me message ≤ few
+    → total few (map left_above puts.levels) < heavy few (left_above least)

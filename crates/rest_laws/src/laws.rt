@@ -1,9 +1,10 @@
 //! What an edge puts on hearing a message, and what it weighs.
-ghost use Rattle.rest_laws.specs.Rises.{HearingRises};
+ghost use Rattle.rest_laws.specs.Rises.{HearingLightens, HearingRises};
 ghost use Rattle.rest_laws.specs.Weight.{FewWeighLess};
 
 /// An edge that has mended hears a message about a wire between it and a peer, which keeps to the plan, and mends: whatever it puts
-/// is of a higher level than the message (RFC 5036 sections 3.5.7, 3.5.10 and 3.5.11, RFC 8077 section 6.3, RFC 4762 section 6.2).
+/// is of a higher level than the message, and no more than so many messages: those that answer it, and three for each of its ends
+/// (RFC 5036 sections 3.5.7, 3.5.10 and 3.5.11, RFC 8077 section 6.3, RFC 4762 section 6.2).
 #[tactic(auto, using(crate::proofs::RiseLemmas::hearing_rises))]
 pub fn hearing_rises()
     ensures { HearingRises }
@@ -14,4 +15,9 @@ pub fn hearing_rises()
 #[tactic(auto, using(crate::proofs::WeightLemmas::lighter))]
 pub fn few_weigh_less()
     ensures { FewWeighLess }
+{}
+
+/// So what it puts weighs less than the message that it heard.
+pub fn hearing_lightens()
+    ensures { HearingLightens }
 {}
