@@ -8,8 +8,8 @@ from typing import NamedTuple
 from .losses import Losses
 from .pace import Pace
 from .probing import PHASES
-from .reached import Reach, apart, reached
-from .sound import used_wires, why_not_sound
+from .reached import apart, reach_of, reached
+from .sound import why_not_sound, without_label
 from .watching import Watch
 
 TYPE_CHECKING = False
@@ -62,7 +62,6 @@ class Reading:
         self.last = {"failed": 0, "mended": 0}
         self.ways: dict[str, dict[tuple[str, str], None]] = {"failed": {}, "mended": {}}
         # Whom the settled failure reaches, and whether each broadcast of that phase went so.
-        self.reach: dict[str, Reach] = {}
         self.settled: list[dict[str, Any]] = []
         self.is_as_settled = True
         # Which edges reached each other, and which wires carried frames, before the mending; and what was learned that leads astray then.
@@ -113,16 +112,17 @@ class Reading:
         self.place, self.frames = self.place + 1, self.frames + 1
 
     def settle(self) -> None:
-        """Whom each site reaches while the failure stands, now that nothing is on its way: by the wires that are sound and used."""
+        """Whom each site reaches while the failure stands, now that nothing is on its way; and whether that is as sound wires decide it."""
         if self.watch is not None:
             self.watch.end()
         network, plan = self.network, self.base.plan
         for service in plan.services:
-            reach = self.reach[service] = Reach(network.shape.of[service], used_wires(network, service))
-            rows = apart(plan, reach, [site for site in network.sites(service) if self.lives(site)])
-            why_not = why_not_sound(network, service)
-            if rows or why_not:
-                self.settled.append({"service": service, "sound": not why_not, "why_not_sound": why_not, "apart": rows})
+            rows = apart(plan, reach_of(network, service), [site for site in network.sites(service) if self.lives(site)])
+            why_not, no_label = why_not_sound(network, service), without_label(network, service)
+            self.is_as_settled = self.is_as_settled and not no_label
+            if rows or why_not or no_label:
+                row = {"service": service, "sound": not why_not, "why_not_sound": why_not, "no_label": no_label, "apart": rows}
+                self.settled.append(row)
 
     def enter(self) -> None:
         """It enters: its circuit is on."""
@@ -155,11 +155,11 @@ class Reading:
         self.frame, self.due, self.left = None, NOTHING, {}
 
     def compare(self, circuit: str) -> None:
-        """Whether the broadcast of a circuit left once at each site that was foretold, and nowhere else."""
+        """Whether the broadcast of a circuit left once at each site that it reaches, and nowhere else."""
         plan = self.base.plan
         service = plan.circuits[circuit]["service"]
         sites = self.network.sites(service)
-        due = reached(plan, self.reach[service], sites, circuit) if circuit in sites else []
+        due = reached(plan, reach_of(self.network, service), sites, circuit) if circuit in sites else []
         self.is_as_settled = self.is_as_settled and self.left == dict.fromkeys(due, 1)
 
     def control(self, text: str, lines: list[str]) -> None:

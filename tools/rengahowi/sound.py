@@ -62,6 +62,15 @@ def used_wires(network: Network, service: str) -> list[Wire]:
     return [wire for wire in wires if wire.kind == "mesh" or chosen[wire.path[0]] is wire]
 
 
+def without_label(network: Network, service: str) -> list[str]:
+    """The wires of a quiet service that are sound and used and carry no frames: an edge of their path has no label left for them. None of
+    a service in which something is on its way, and none by a report that leaves LDP out."""
+    if network.unsettled(service) or not network.tells_sessions(service):
+        return []
+    up = network.up_wires(service)
+    return [wire.name for wire in used_wires(network, service) if wire not in up]
+
+
 def why_not_sound(network: Network, service: str) -> list[dict[str, Any]]:
     """Why a service is not sound: each two core edges without a sound mesh wire, and each spoke edge without a sound spoke, with the wires
     that they have and why each of these is not; an empty list where it is."""

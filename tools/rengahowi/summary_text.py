@@ -91,7 +91,7 @@ def service(row: dict[str, Any]) -> list[Any]:
     never = [f"  {names(part['sites'])} never had {names(part['lost'])}" for part in row["never"]]
     spokes = [f"  of the {left['spokes']} spokes of {left['edge']}, {left['usable'] or 'none'} can be used" for left in row["redundancy"]]
     why_not = [f"  not sound: {sound_text(why)}" for why in row["why_not_sound"]]
-    why_not += ["  sound and at rest, and not calm: an edge has no label left"] if row["no_label"] else []
+    why_not += [f"  sound and used, and not up, since an edge has no label left: {names(row['no_label'])}"] if row["no_label"] else []
     told = "sites that lost each other" if lines else "no sites lost each other"
     return [head + told, *cut(lines), *cut(never), *cut(why_not), *cut(spokes)]
 

@@ -3,7 +3,7 @@
 from __future__ import annotations
 
 from .network import UP
-from .sound import is_sound, used_wires, why_not_sound
+from .sound import is_sound, used_wires, why_not_sound, without_label
 
 TYPE_CHECKING = False
 if TYPE_CHECKING:
@@ -101,7 +101,7 @@ def service_row(plan: Plan, run: Run, service: str, first: int) -> dict[Any, Any
         "sound": not why_not,
         "why_not_sound": why_not,
         "unsettled": [list(pair) for pair in network.unsettled(service)],
-        "no_label": not why_not and not network.is_calm(service) and not network.unsettled(service) and network.tells_sessions(service),
+        "no_label": without_label(network, service),
         "lost": list(lost_rows(plan, run, service, first)),
         "never": parted(plan, sites, pairs),
         "redundancy": [row for row in spokes_left(plan, network, service) if row["usable"] < row["spokes"]],

@@ -85,11 +85,11 @@ def settled(row: dict[str, Any]) -> str:
     """Whom the settled failure reaches: the first of the sites that reach fewest, and how many more do not reach each other one."""
     parts = [part for one in row["settled"] for part in one["apart"]]
     if not parts:
-        return "-" if row["as_settled"] else "OTHERWISE"
+        return "-" if row["as_settled"] else "- (no label)"
     first = min(parts, key=lambda part: len(part["reached"]))
     more = sum(len(part["sites"]) for part in parts) - len(first["sites"])
     text = f"{some(first['sites'])} reach{'es' if len(first['sites']) == 1 else ''} {some(first['reached']) or 'nobody'}"
-    return text + (f"; {counted(more, 'more site')}" if more else "") + ("" if row["as_settled"] else " OTHERWISE")
+    return text + (f"; {counted(more, 'more site')}" if more else "") + ("" if row["as_settled"] else " (no label)")
 
 
 def frames(row: dict[str, Any], kind: str) -> str:
@@ -112,9 +112,9 @@ def endings(found: dict[str, Any]) -> Any:
         f"{counted(len(rows), 'case')}: in {len(apart)} sites are split while the failure stands, in {len(some_time)} for some time",
         f"{again}; {counted(sum(not row['calm'] for row in rows), 'case')} not calm again",
     ]
-    otherwise = sum(not row["as_settled"] for row in rows)
-    if otherwise:
-        lines.append(f"In {counted(otherwise, 'case')} a broadcast went otherwise than by the wires that are sound and used: an edge has no label left")
+    unlabelled = sum(not row["as_settled"] for row in rows)
+    if unlabelled:
+        lines.append(f"In {counted(unlabelled, 'case')} wires that are sound and used carry no frames once all is settled: an edge has no label left")
     if not all(row["whole"] for row in rows):
         lines.append("Of the cases that are not calm again, some had more to deliver than a scenario has room for")
     if found["left"]:
