@@ -293,3 +293,9 @@ pub lapsed_at : (histories : ℕ → List Deed) (all : List AdjacencyLists) (edg
 lapsed_at histories all edge peer d ended sized within is are there =
     is ∙ lapse_is (histories edge.0) (get_or all edge.0 d) peer (are.holds edge.0) (item_is (λ k. IsAfter (histories k)) all edge.0 d are.each within)
     (omega (arith, there, size_at all edge.0 d sized within))
+
+-- where nothing was heard the edge is put back as it was
+pub heard_nothing : (all : List AdjacencyLists) (me : ℕ) (x d : AdjacencyLists) → me < length all → x ≡ get_or all me d → set all me x ≡ all
+heard_nothing [] me x d within is = absurd (omega (arith, within))
+heard_nothing (y ∷ all) zero x d within is = ap (λ (z : AdjacencyLists). z ∷ all) is
+heard_nothing (y ∷ all) (suc me) x d within is = ap (λ (l : List AdjacencyLists). y ∷ l) (heard_nothing all me x d (omega (arith, within)) is)

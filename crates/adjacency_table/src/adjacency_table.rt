@@ -1,5 +1,5 @@
 //! The adjacencies of all edges.
-ghost use Rattle.std.specs.Prelude.{◌≡◌, ◌<◌, ◌≤◌, ◌^◌, ℕ, List, [], Some, false, length, slice_index_or, IfOk, OnOk};
+ghost use Rattle.std.specs.Prelude.{◌≡◌, ◌<◌, ◌≤◌, ◌^◌, ℕ, List, [], Some, false, length, slice_index_or, IfOk, OnErr, OnOk};
 ghost use Rattle.net_values.specs.declared.addr.Addr.{Addr};
 ghost use Rattle.net_base.specs.{declared.plan.Plan.{Plan}, plan.Accepted.{IsChecked}, plan.Paths.{are_joined, edge_address}};
 ghost use Rattle.ldp_discovery.specs.{Adjacencies.{id_behind}, Hellos.{hello_octets}, Live.{Deed, heard, live, said, ticked}};
@@ -58,7 +58,7 @@ impl AdjacencyTable {
     }
 
     /// An edge hears octets that came from another one; a Hello of that edge is kept. Where memory was refused nothing changes.
-    #[tactic(auto, using(crate::proofs::HistoryLemmas::size_at, crate::proofs::HistoryLemmas::heard_after, crate::proofs::HistoryLemmas::heard_fixed, crate::proofs::HistoryLemmas::heard_sized))]
+    #[tactic(auto, using(crate::proofs::HistoryLemmas::size_at, crate::proofs::HistoryLemmas::heard_after, crate::proofs::HistoryLemmas::heard_fixed, crate::proofs::HistoryLemmas::heard_sized, crate::proofs::HistoryLemmas::heard_nothing))]
     pub fn hear(
         &mut self,
         alloc: Global,
@@ -71,6 +71,7 @@ impl AdjacencyTable {
         ensures plan { (plan : Plan) → AreEdgesOf plan self.old → AreEdgesOf plan self.new }
         ensures histories { (histories : ℕ → List Deed) (plan : Plan) (address : Addr) (id hold : ℕ) → AreAfter histories self.old → AreEdgesOf plan self.old → edge_address plan from ≡ Some address → id < 2 ^ 32 → hold ≤ 65535 → octets.now ≡ hello_octets address id hold
             → OnOk result (AreAfter (with_deed at (heard from.0 hold) histories) self.new) }
+        ensures nothing { OnErr result (self.new ≡ self.old) }
     {
         match self.edges[at.0 as usize].hear(alloc, from, octets) {
             Ok(_) => Ok(()),
