@@ -3,6 +3,8 @@
 from __future__ import annotations
 
 from ..keys import OFFER
+from .frr import MEANINGS
+from .text import Text
 
 TYPE_CHECKING = False
 if TYPE_CHECKING:
@@ -14,77 +16,72 @@ IMAGE = "quay.io/frrouting/frr:9.1.0"
 DAEMONS = "zebra=yes\nospfd=yes\nldpd=yes\nvtysh_enable=yes\n"
 # What no line of an `l2vpn` section tells.
 UNTOLD = ("vlan", "vccv", "group", "description")
-LEAST_HOLD = 15
+LEAST_MTU = 64
 USUAL = {key.name: key.default for key in OFFER}
 
 
-class FrrText:
-    """The configurations of a plan, and what they leave out."""
+class FrrText(Text):
+    """The configurations of FRR, and a lab of them."""
+
+    ending = ".conf"
+    says_age = False
+    meanings = MEANINGS
+    least_keepalive = 15
 
     def __init__(self, plan: Plan) -> None:
-        self.plan = plan
-        self.left_out: list[str] = []
+        super().__init__(plan)
         self.neighbours: dict[str, list[str]] = {edge: [] for edge in plan.edges}
         for a, b in plan.pairs():
             self.neighbours[a].append(b)
             self.neighbours[b].append(a)
         self.circuits = {edge: [name for name, row in plan.circuits.items() if row["edge"] == edge] for edge in plan.edges}
 
-    def files(self, name: str) -> dict[Any, Any]:
+    def files(self, name: str) -> dict[str, str]:
         """All files, by their names."""
+        self.check_services()
         self.leave_out()
-        files = {f"{edge}.conf": self.router(edge) for edge in self.plan.edges}
+        files = {f"{edge}.conf": self.configuration(edge) for edge in self.plan.edges}
         return {**files, "daemons": DAEMONS, "lab.clab.yml": self.lab(name)}
 
     def leave_out(self) -> None:
-        """Notes what FRR cannot do."""
-        for edge, row in self.plan.edges.items():
-            if row["keepalive"] < LEAST_HOLD:
-                self.left_out.append(f"edge {edge}: its hold time is {LEAST_HOLD}, since FRR takes none of {row['keepalive']}")
-            for key, usual in (("first_label", 16), ("max_pdu", 4096)):
-                if row[key] != usual:
-                    self.left_out.append(f"edge {edge}: {key} is left out")
-        for service, row in self.plan.services.items():
-            if row["age"] != 300:
-                self.left_out.append(f"service {service}: its age is that of a bridge of Linux, which its owner sets")
+        """Tells what FRR cannot say of wires."""
         for wire in self.plan.wires.values():
-            if len(wire.path) > 2:
-                self.left_out.append(f"wire {wire.name} is left out: FRR has no switching points")
-            elif wire.kind == "spoke":
-                self.left_out.append(f"spoke {wire.name} becomes a pseudowire of the mesh, without priority {wire.priority}")
+            if wire.kind == "spoke" and len(wire.path) == 2:
+                self.leave(f"spoke {wire.name} becomes a pseudowire of the mesh, without priority {wire.priority}")
             for edge in wire.ends():
                 offer = wire.offer(edge)
+                if offer["mtu"] < LEAST_MTU:
+                    self.leave(f"wire {wire.name} at {edge}: FRR takes no MTU of {offer['mtu']}")
                 for key in UNTOLD:
                     if offer[key] != USUAL[key] and not (key == "group" and offer[key] == 0):
-                        self.left_out.append(f"wire {wire.name} at {edge}: {key} {offer[key]} is left out")
+                        self.leave(f"wire {wire.name} at {edge}: {key} {offer[key]} is left out")
 
     def port(self, edge: str, peer: str) -> str:
         """The interface of an edge towards a neighbour."""
         return f"eth{self.neighbours[edge].index(peer) + 1}"
 
-    def circuit_port(self, edge: str, circuit: str) -> Any:
+    def circuit_port(self, edge: str, circuit: str) -> str:
         """The interface of a circuit."""
         tag = self.plan.circuits[circuit]["tag"]
         name = f"eth{len(self.neighbours[edge]) + self.circuits[edge].index(circuit) + 1}"
         return f"{name}.{tag}" if tag else name
 
-    def router(self, edge: str) -> str:
+    def configuration(self, edge: str) -> str:
         """The configuration of an edge."""
-        row = self.plan.edges[edge]
-        address = row["address"]
+        address = self.plan.edges[edge]["address"]
         ports = [self.port(edge, peer) for peer in self.neighbours[edge]]
         lines = [f"hostname {edge}", "!", "interface lo", f" ip address {address}/32", " ip ospf area 0", "exit", "!"]
         for port in ports:
             lines += [f"interface {port}", f" ip address {address}/32", " ip ospf network point-to-point", " ip ospf area 0", "exit", "!"]
         lines += ["router ospf", f" ospf router-id {address}", "exit", "!", "mpls ldp", f" router-id {address}", " address-family ipv4"]
-        lines += [f"  discovery transport-address {address}", f"  session holdtime {max(LEAST_HOLD, row['keepalive'])}"]
+        lines += [f"  discovery transport-address {address}", f"  session holdtime {self.keepalive(edge) or MEANINGS['keepalive'].value}"]
         lines += [line for port in ports for line in (f"  interface {port}", "  exit")]
         lines += [" exit-address-family", "exit", "!"]
         for service in self.plan.services:
             lines += self.section(edge, service)
         return "\n".join(lines) + "\n"
 
-    def section(self, edge: str, service: str) -> list[Any]:
+    def section(self, edge: str, service: str) -> list[str]:
         """The `l2vpn` section of a service at an edge: none where it has no circuit and no wire there."""
         wires = [wire for wire in self.plan.wires_of(service) if edge in wire.ends() and len(wire.path) == 2]
         circuits = [name for name in self.circuits[edge] if self.plan.circuits[name]["service"] == service]
@@ -97,7 +94,7 @@ class FrrText:
         for number, (wire, offer) in enumerate(zip(wires, offers)):
             for key in ("mtu", "mode"):
                 if offer[key] != offers[0][key]:
-                    self.left_out.append(f"wire {wire.name} at {edge}: {key} {offer[key]} is left out, since a section has one, {offers[0][key]}")
+                    self.leave(f"wire {wire.name} at {edge}: {key} {offer[key]} is left out, since a section has one, {offers[0][key]}")
             far = wire.path[1] if edge == wire.path[0] else wire.path[0]
             lines += [f" member pseudowire mpw_{service}_{number}", f"  neighbor lsr-id {self.plan.edges[far]['address']}", f"  pw-id {wire.pw_id}"]
             lines += [] if offer["control_word"] else ["  control-word exclude"]

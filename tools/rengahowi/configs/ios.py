@@ -41,6 +41,7 @@ def service_instance(reader: Reader, within: Interface, block: Block, number: st
     """A service instance of a port, which keeps its tag where nothing takes it off."""
     made = reader.interface(f"{within.name}.{number}", block.line)
     made.keeps_tag = True
+    made.said["service instance"] = Said(number, block.line)
     return made
 
 
@@ -353,7 +354,7 @@ class Ios(Reader):
         """What the interface of a cross-connect has all its pseudowires offer."""
         for instance, port in self.points.values():
             instance.offer.update(port.offer)
-            if "." in port.name and port.tag is not None and not port.keeps_tag:
+            if port.tag is not None and "service instance" not in port.said:
                 instance.offer.setdefault("mode", Said(MEANINGS["mode of a subinterface"].value, port.tag.line))
 
     def found(self, said: Said) -> Instance | None:

@@ -295,7 +295,7 @@ class Junos(Reader):
             wire.rank = Said(first, wire.line)
             backup.rank, backup.kind = Said(second + place, backup.line), wire.kind
             backup.pw_id = backup.inner_pw_id or wire.pw_id
-            for key in ("mode", "control_word", "mtu", "vccv", "status", "description"):
+            for key in ("mode", "control_word", "mtu"):
                 if key in wire.offer:
                     backup.offer.setdefault(key, wire.offer[key])
             made.pseudowires.append(backup)

@@ -22,7 +22,7 @@ SIGNS: dict[str, list[tuple[str, int]]] = {
     "junos": [("\nset interfaces ", 5), ("\nset routing-instances ", 5), ("\nset system ", 5), ("\nsystem {\n", 3), ("\ninterfaces {\n", 3), ("\nrouting-instances {\n", 5), ("\nset protocols ", 3), (";\n", 3), ("\n        instance-type ", 3), ("\n    host-name ", 2), ("\nversion 2", 1)],
     "sr-os": [("\n# TiMOS", 9), ("\nconfigure\n", 5), ("\nconfigure {\n", 5), ("\nexit all", 3), (" mesh-sdp ", 5), (" spoke-sdp ", 5), ("\n    service\n", 2), ("\n        sap ", 1), ('\necho "', 3), (" sdp ", 1)],
     "vrp": [("\nsysname ", 9), ("\nvsi ", 5), ("\nmpls lsr-id ", 5), ("\nreturn\n", 2), ("\n#\n", 2), ("\n undo ", 1), ("\n pwsignal ldp", 5), ("\n l2 binding vsi ", 3), ("\n mpls l2vc ", 3), ("\n  vsi-id ", 2)],
-    "frr": [("\nfrr version ", 9), ("\nfrr defaults ", 9), (" type vpls\n", 3), ("\n member pseudowire mpw", 3), ("\n neighbor lsr-id ", 3), ("\nmpls ldp\n router-id ", 1), ("\n  neighbor lsr-id ", 3)],
+    "frr": [("\nfrr version ", 9), ("\nfrr defaults ", 9), (" type vpls\n", 3), ("\n member pseudowire mpw", 3), ("\n neighbor lsr-id ", 3), ("\nmpls ldp\n router-id ", 1), ("\n  neighbor lsr-id ", 3), ("\ninterface lo\n", 3), ("\n  discovery transport-address ", 3)],
 }
 
 

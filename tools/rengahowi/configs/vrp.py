@@ -254,7 +254,7 @@ class Vrp(Reader):
         for address, pw_id, said in one.members:
             found = [
                 wire for wire in one.instance.pseudowires
-                if wire.neighbour == address and (pw_id is None or wire.pw_id is not None and wire.pw_id.value == int(pw_id))
+                if wire.neighbour == address and (pw_id is None or getattr(wire.pw_id or one.instance.pw_id, "value", None) == int(pw_id))
             ]
             for wire in found[:1]:
                 wire.rank = said
