@@ -1,0 +1,5 @@
+pub mod EdgeLemmas
+pub mod EventLemmas
+pub mod RunLemmas
+pub mod MadeLemmas
+pub mod ReportLemmas
