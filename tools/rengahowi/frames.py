@@ -2,7 +2,8 @@
 
 from __future__ import annotations
 
-from .network import Network
+from .learned import Learned
+from .network import UP, Network
 from .pings import Pings
 from .reached import reach_of, reached
 from .report import ALWAYS
@@ -66,7 +67,7 @@ class Frame:
         return not (self.dropped and self.dropped[0][0] is self.event and self.dropped[0][1] == self.edge)
 
     def is_flooded(self) -> bool:
-        """Whether it goes to everybody: to a group, or to a station of which nothing was heard."""
+        """Whether it goes to everybody: to a group, or to a station that no bridge knows and that says nothing meanwhile."""
         return self.is_formed() and (self.is_group or not self.heard)
 
     def missed(self) -> list[str]:
@@ -86,7 +87,7 @@ class Frame:
         does."""
         reasons = []
         if not self.is_flooded():
-            reasons.append("it is dropped where it enters" if not self.is_formed() else "its station was heard before")
+            reasons.append("it is dropped where it enters" if not self.is_formed() else "its station was known")
         if self.unsettled:
             reasons.append(f"the service was not quiet ({some_pairs(self.unsettled)})")
         elif not self.is_told:
@@ -132,7 +133,14 @@ class Run:
         self.of_packet: dict[str, Frame] = {}
         self.entered: list[Frame] = []
         self.ended: list[Frame] = []
+        self.learned = Learned(plan)
+        # Of each service the stations that were ever heard, and the frames for stations that were not known. Where a report leaves packets
+        # out, who was heard counts as known.
         self.heard: dict[str, set[str]] = {service: set() for service in plan.services}
+        self.unknown: dict[tuple[str, str], list[Frame]] = {}
+        self.untold: set[str] = set()
+        self.open_from: dict[tuple[str, str], int] = {}  # how many frames are open that came from a station
+        self.arrived: tuple[Frame, str, str] | None = None  # by the event that is followed, where, and on which wire
         self.ever_up: set[frozenset[str]] = set()
         self.ever_carried: set[str] = set()
         # Which edges reach each other in a service, as it was looked at last. Where wires only came up since, and no edges have lost
@@ -169,6 +177,10 @@ class Run:
                 elif kind in NOTED:
                     self.notes.append((self.count, line + 2, row))
                 continue
+            if self.arrived is not None:
+                frame, edge, wire = self.arrived
+                self.learned.learn(frame.service, edge, frame.source, wire)
+                self.arrived = None
             if self.entered or self.ended or self.network.told:
                 self.end_event()
             self.count, self.line, self.told, self.pings.now = self.count + 1, line, None, None
@@ -195,13 +207,24 @@ class Run:
             frame.disturbed = frame.disturbed or self.moment()
 
     def begin(self, row: list[str]) -> None:
-        """An event that connects edges or switches something."""
-        self.network.apply(row[1], row[2:])
+        """An event that connects edges or switches something, or a tick."""
+        kind, *words = row[1:]
+        self.network.apply(kind, words)
+        if kind == "restart":
+            self.learned.forget_edge(words[0])
+        elif kind == "tick":
+            self.learned.ticks += 1
+        elif kind == "circuit" and words[1] == "off":
+            circuit = self.plan.circuits[words[0]]
+            self.learned.forget_port(circuit["service"], circuit["edge"], words[0])
 
     def deliver(self, row: list[str]) -> None:
         """Something of LDP is delivered."""
         self.deliveries += 1
         self.network.apply("deliver", row[2:])
+        pipe = self.network.pipes.get((row[2], row[3]))
+        for octets in pipe.came if pipe is not None else ():
+            self.learned.withdraw(row[3], row[2], octets)
 
     def come(self, row: list[str]) -> None:
         """A frame comes: its first entry says what becomes of it."""
@@ -213,11 +236,13 @@ class Run:
     def arrive(self, row: list[str]) -> None:
         """A packet arrives: it is under way no more."""
         packet = row[2]
-        self.network.packets.pop(packet, None)
+        sent = self.network.packets.pop(packet, None)
         frame = self.of_packet.pop(packet, None)
         if frame is None:
             self.pings.arrive(packet)
             return
+        if row[1] == "arrive" and sent is not None and sent[1] in self.plan.wires[sent[2]].ends():
+            self.arrived = frame, sent[1], sent[2]
         frame.under_way.discard(packet)
         if not frame.under_way:
             self.ended.append(frame)
@@ -248,8 +273,20 @@ class Run:
     def enter(self, row: list[str]) -> None:
         """A frame enters."""
         frame = Frame(self.network, self.moment(), row)
+        if not frame.is_group:
+            frame.heard = self.is_known(frame.service, frame.to)
+            self.unknown.setdefault((frame.service, frame.to), []).append(frame)
         self.frames[row[2]] = self.open_frames[row[2]] = frame
+        self.open_from[frame.service, frame.source] = self.open_from.get((frame.service, frame.source), 0) + 1
         self.entered.append(frame)
+
+    def is_known(self, service: str, station: str) -> bool:
+        """Whether a bridge of the service knows a station, or a packet under way comes from it."""
+        if station not in self.heard[service]:
+            return False
+        if service in self.untold or self.learned.is_known(service, station):
+            return True
+        return self.open_from.get((service, station), 0) > 0
 
     def send(self, row: list[str]) -> None:
         """A packet is sent, with a copy of a frame, or of a ping."""
@@ -297,8 +334,10 @@ class Run:
         if frame is None:
             return
         frame.left[circuit] = frame.left.get(circuit, 0) + 1
-        if hops != "0" and frame.event.number == self.count and not frame.calm:
-            frame.is_told = False  # it passed a segment by no packet
+        if hops != "0" and frame.event.number == self.count:  # it passed a segment by no packet
+            self.untold.add(frame.service)
+            frame.is_told = frame.is_told and frame.calm
+            frame.heard = frame.heard or frame.to in self.heard[frame.service]
         if hops != frame.hops and int(hops) > int(frame.hops):
             frame.hops = hops
 
@@ -306,6 +345,7 @@ class Run:
         """A frame, a copy of one or a packet of a ping is dropped."""
         _, edge, origin, cause = row
         self.drops.append((self.count, edge, cause))
+        self.arrived = None
         frame = self.frame_of(origin)
         if frame is not None:
             frame.dropped.append((self.moment(), edge, cause))
@@ -320,6 +360,8 @@ class Run:
     def tell(self, row: list[str]) -> None:
         """What is told of the network."""
         self.network.tell(row[0], row[1:])
+        if row[0] == "wire" and row[3] != UP:
+            self.learned.forget_port(self.plan.wires[row[2]].service, row[1], row[2])
 
     def tell_session(self, row: list[str]) -> None:
         """What is told of a session."""
@@ -330,11 +372,9 @@ class Run:
         """What is so behind an event: whose station is heard, whose window is over, which sessions and wires came up or went."""
         for frame in self.entered:
             self.hear(frame)
-        for frame in self.entered:
-            frame.heard = frame.heard or frame.to in self.heard[frame.service]
         for frame in (*self.entered, *self.ended):
-            if not frame.under_way:
-                self.open_frames.pop(str(frame.origin), None)
+            if not frame.under_way and self.open_frames.pop(str(frame.origin), None) is not None:
+                self.open_from[frame.service, frame.source] -= 1
         self.entered.clear()
         self.ended.clear()
         self.ever_up.update(frozenset(pair) for pair in self.sessions if self.network.is_up(*pair))
@@ -343,12 +383,12 @@ class Run:
             self.look()
 
     def hear(self, frame: Frame) -> None:
-        """The station of a frame that was not dropped where it entered is heard."""
-        heard = self.heard[frame.service]
-        if frame.is_formed() and frame.source not in heard:
-            heard.add(frame.source)
-            for other in self.open_frames.values():
-                other.heard = other.heard or other.service == frame.service and other.to == frame.source
+        """The station of a frame that was not dropped where it entered is heard: the frames for it that are under way are no floods."""
+        if frame.is_formed():
+            self.heard[frame.service].add(frame.source)
+            self.learned.learn(frame.service, frame.edge, frame.source, frame.circuit)
+            for other in self.unknown.pop((frame.service, frame.source), ()):
+                other.heard = other.heard or str(other.origin) in self.open_frames
 
     def look(self) -> None:
         """Which wires came up or went, and which edges lost or found each other by that."""

@@ -16,15 +16,25 @@ if TYPE_CHECKING:
 
 UP = "up"
 NEVER = "NonExistent"
+# The type of an Address Withdraw, and where the type of a PDU's message stands, in hexadecimal (RFC 5036 sections 3.1 and 3.5.6).
+ADDRESS_WITHDRAW, MESSAGE = "0301", 20
 
 
 class Pipe:
     """What was put from one edge to another and is on its way or held in part there: the lengths of its PDUs, of which so many were
-    delivered whole, and how many octets of the next one were."""
+    delivered whole, and how many octets of the next one were. Of withdrawals of addresses the octets are kept until they have come."""
 
     def __init__(self) -> None:
         self.pdus: list[int] = []
         self.whole, self.heard = 0, 0
+        self.kept: dict[int, str] = {}
+        self.came: list[str] = []  # by the last delivery
+
+    def put(self, octets: str) -> None:
+        """One more PDU is on its way."""
+        if octets.startswith(ADDRESS_WITHDRAW, MESSAGE):
+            self.kept[len(self.pdus)] = octets
+        self.pdus.append(len(octets) // 2)
 
     def deliver(self, count: int) -> int:
         """Takes octets from the front, as many as there are at most, and answers how many PDUs are whole by that."""
@@ -33,6 +43,7 @@ class Pipe:
             self.heard -= self.pdus[self.whole]
             self.whole += 1
         made = self.whole - before
+        self.came = [self.kept.pop(place) for place in range(before, self.whole) if place in self.kept] if self.kept else []
         if self.is_drained():
             self.pdus.clear()
             self.whole, self.heard = 0, 0
@@ -41,7 +52,7 @@ class Pipe:
     def copy(self) -> Pipe:
         """A pipe with the same in it."""
         made = Pipe()
-        made.pdus, made.whole, made.heard = self.pdus.copy(), self.whole, self.heard
+        made.pdus, made.whole, made.heard, made.kept = self.pdus.copy(), self.whole, self.heard, self.kept.copy()
         return made
 
     def octets(self) -> int:
@@ -161,7 +172,7 @@ class Network:
         if kind == "said":
             a, b, octets = words
             if (b, a) in self.stands:
-                self.pipes[a, b].pdus.append(len(octets) // 2)
+                self.pipes[a, b].put(octets)
         elif kind == "session":
             a, b, state = words
             self.sessions[a, b] = state

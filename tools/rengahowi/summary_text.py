@@ -114,7 +114,7 @@ def frames(rows: list[dict[str, Any]]) -> list[str]:
     lines += cut(flooded_line(row) for row in shown)
     twice = [row for row in rows if row["twice"] and not row["flooded"]]
     if twice:
-        lines += ["Frames to a station that was heard, which left twice", *cut(other_line(row) for row in twice)]
+        lines += ["Frames to a known station, which left twice", *cut(other_line(row) for row in twice)]
     nowhere = [row for row in rows if row["nowhere"]]
     if nowhere:
         lines += ["Frames that ended nowhere", *cut(nowhere_line(row) for row in nowhere)]

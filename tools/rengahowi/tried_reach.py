@@ -53,6 +53,21 @@ USED: list[tuple[list[str], str]] = [
     (["priority x xb 99", "lose x b"], "xa"),
 ]
 
+# Events behind a broadcast from cx's station, which every edge has heard then, in a service whose bridges forget after five ticks; and
+# whether a frame that enters for it at cc is flooded. A withdrawal with an empty list goes over xb to b, and on to a and c.
+KNOWN: list[tuple[list[str], bool]] = [
+    ([], False),
+    (["tick 4"], False),
+    (["tick 5"], True),
+    (["tick 3", "frame cx 02ee0000000102000000000d88b5", "tick 3"], False),
+    (["restart x", "restart b", "restart c"], False),
+    (["restart x", "restart b", "restart c", "circuit ca off", "wire a ac off", "wire a xa off"], True),
+    (["circuit cx off", "circuit cx on"], False),
+    (["circuit cx off", "circuit cx on", "priority x xb 99", "settle 1000"], True),
+    (["circuit cx off", "circuit cx on", "priority x xb 99", "deliver x b 65535"], False),
+    (["circuit cx off", "circuit cx on", "again 1", "drop 1"], False),
+]
+
 
 def scenario(events: Iterable[str], keys: str = "", left_out: str = "") -> str:
     """The text of the plan above with these events and these keys of wire ab, without one of its wires."""
@@ -75,6 +90,7 @@ def reaches(folder: pathlib.Path, _gone: set[str]) -> Iterator[Any]:
     yield from unsound(folder)
     yield from used(folder)
     yield from told_otherwise(folder)
+    yield from known(folder)
     yield from scripted(folder)
     yield from in_a_lab(folder)
     yield from off(folder)
@@ -140,6 +156,19 @@ def told_otherwise(folder: pathlib.Path) -> Iterator[Any]:
         path.write_text(text.replace(line, lines).replace("left=11", f"left={count}"), encoding="utf-8")
         said = [one for one in tool("summary", plan, path)[1].splitlines() if "frame 2 " in one and "served" in one]
         yield compare(f"a flood, {name}", [one.rpartition("; ")[2] for one in said], [f"PROMISED: at {where}, and not so"])
+
+
+def known(folder: pathlib.Path) -> Iterator[Any]:
+    """Frames for a station that was heard: known still, or forgotten by age, by restarts, by what goes off and by a withdrawal."""
+    frame = "frame cc 02000000000d02000000000c88b5"
+    for events, is_flooded in KNOWN:
+        text = scenario([*flood("cx"), *events, frame, "flow 100"]).replace('name = "s"\n', 'name = "s"\nage = 5\n', 1)
+        row = summed(folder, text)["frames"][-1]
+        yield compare(f"known, {events}", (row["flooded"], row["circuit"]), (is_flooded, "cc"))
+    meanwhile = "frame cx 02ee0000000102000000000d88b5"
+    for events, is_flooded in (([frame], True), ([frame, meanwhile], False), ([frame, "flow 100", meanwhile], True)):
+        row = summed(folder, scenario(events))["frames"][0]
+        yield compare(f"known, by {events}", row["flooded"], is_flooded)
 
 
 def scripted(folder: pathlib.Path) -> Iterator[Any]:
