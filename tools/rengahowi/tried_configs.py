@@ -2,13 +2,17 @@
 
 from __future__ import annotations
 
+import json
 import pathlib
 import random
 
+from . import checking, writing
+from .command import Fault
 from .configs import joining, vendors, writers
 from .plan import Plan, tables_of
+from .program import path as program_path
 from .random_plans import random_plan, same_but_for_names
-from .trying import TOP, compare, tool
+from .trying import TOP, compare, run, tool
 
 TYPE_CHECKING = False
 if TYPE_CHECKING:
@@ -74,3 +78,80 @@ def to_configs(_folder: pathlib.Path, _gone: set[str]) -> Iterator[bool]:
         yield compare(f"to-config {vendor} and back", (said > 5, wrong[:1]), (True, []))
         for like in writers.WRITERS:
             yield compare(f"to-config {vendor}, a plan for {like}", there_and_back(vendor, 8, 2, like)[1], [])
+
+
+def damaged(chance: random.Random, text: str) -> str:
+    """A configuration with lines cut, doubled, moved or changed, with odd indentation, with tabs or CR LF, or half of it."""
+    lines = text.split("\n")
+    for _ in range(chance.randint(1, 12)):
+        place, other = chance.randrange(len(lines)), chance.randrange(len(lines))
+        kind = chance.randrange(7)
+        if kind == 0 and len(lines) > 1:
+            del lines[place]
+        elif kind == 1:
+            lines.insert(other, lines[place])
+        elif kind == 2:
+            lines.insert(other, lines.pop(place))
+        elif kind == 3:
+            lines[place] = " " * chance.randint(0, 9) + lines[place].lstrip()
+        elif kind == 4:
+            lines[place] = lines[place].replace("    ", "\t").replace(" ", "\t", chance.randint(0, 1))
+        elif kind == 5:
+            words = lines[place].split(" ")
+            words[chance.randrange(len(words))] = chance.choice(["", "{", "}", '"', "99999999999", "x" * 200, "10.0.0.256", "0", "é", "pw-id"])
+            lines[place] = " ".join(words)
+        else:
+            lines[place] = lines[place][: chance.randint(0, 40)]
+    if chance.random() < 0.1:
+        lines = lines[: len(lines) // 2]
+    return ("\r\n" if chance.random() < 0.2 else "\n").join(lines)
+
+
+def worst_of(seed: int, count: int) -> list[tuple[str, ...]]:
+    """Of so many damaged configurations, those that end in another way than by a scenario that is one, or by a line of a file."""
+    chance = random.Random(seed)
+    places = sorted(path.parent for path in CONFIGS.glob("*/*/" + PLAN))
+    texts = [[path.read_text(encoding="utf-8") for path in sorted(place.iterdir()) if path.name not in (PLAN, TOLD)] for place in places]
+    wrong: list[tuple[str, ...]] = []
+    for _ in range(count):
+        files = list(chance.choice(texts))
+        place = chance.randrange(len(files))
+        files[place] = damaged(chance, files[place])
+        try:
+            made = joining.Joining([vendors.read(f"{number}.cfg", text).router for number, text in enumerate(files)], chance.random() < 0.5)
+            rows = made.make()
+            document = tables_of(writing.scenario(rows, writing.connected(rows)))
+            kinds = (checking.top_faults, checking.row_faults, checking.references, checking.name_faults, checking.plan_faults)
+            faults = [fault for kind in kinds for fault in kind(document)]
+            lines = {f"{number}.cfg": len(text.splitlines()) + 1 for number, text in enumerate(files)}
+            if faults or any(not 0 < told.line <= lines[told.path] for told in made.told):
+                wrong.append((str(faults or made.told), *files))
+        except Fault as fault:
+            if ".cfg, line " not in str(fault):
+                wrong.append((str(fault), *files))
+        except Exception as fault:  # pylint: disable=broad-exception-caught
+            wrong.append((repr(fault), *files))
+    return wrong
+
+
+def damaged_configs(folder: pathlib.Path, _gone: set[str]) -> Iterator[bool]:
+    """Damaged configurations end in a scenario that is one, or in a line that names its file and line; a mixed network comes up calm."""
+    yield compare("from-config of damaged files", worst_of(7, 150)[:1], [])
+    place, plan, report = CONFIGS / "mixed" / "core-and-spoke-edges", folder / "plan.toml", folder / "run.txt"
+    plan.write_text(tool("from-config", *(f"{name}" for name in ("pe1.cfg", "pe2.cfg", "upe1.conf", "upe2.cfg")), folder=place)[1], encoding="utf-8")
+    report.write_bytes(run([program_path(), "replay", plan], folder).stdout)
+    found = json.loads(tool("summary", "--json", plan, report)[1])
+    yield compare("a mixed network", ([row["calm"] for row in found["services"]], len(found["sessions"])), ([True], 5))
+
+
+def netboxes(folder: pathlib.Path, _gone: set[str]) -> Iterator[bool]:
+    """The plan of an export of NetBox is the one that stands beside it; what is none is refused in one line."""
+    place = CONFIGS / "netbox"
+    status, said, fault = tool("from-netbox", "export.json", folder=place)
+    yield compare("from-netbox", (status, said), (0, (place / PLAN).read_text(encoding="utf-8")))
+    yield compare("from-netbox, told", fault, (place / TOLD).read_text(encoding="utf-8"))
+    path = folder / "export.json"
+    for text, words in (("", "no JSON"), ("[]", "no object"), ('{"l2vpns": {"results": 3}}', "no L2VPN of type vpls")):
+        path.write_text(text, encoding="utf-8")
+        status, said, fault = tool("from-netbox", path)
+        yield compare(f"from-netbox {text!r}", (status, said, words in fault, fault.count("\n")), (1, "", True, 1))
