@@ -2,6 +2,7 @@ pub mod BindLemmas
 pub mod ChoiceLemmas
 pub mod ClearLemmas
 pub mod CountLemmas
+pub mod DeliverLemmas
 pub mod DueLemmas
 pub mod Examples
 pub mod HearLemmas

@@ -1,3 +1,4 @@
+pub mod Delivered
 pub mod Levels
 pub mod Rises
 pub mod Weight

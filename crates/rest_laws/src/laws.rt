@@ -1,4 +1,5 @@
 //! What an edge puts on hearing a message, and what it weighs.
+ghost use Rattle.rest_laws.specs.Delivered.{RunsRise};
 ghost use Rattle.rest_laws.specs.Rises.{HearingLightens, HearingRises};
 ghost use Rattle.rest_laws.specs.Weight.{FewWeighLess};
 
@@ -20,4 +21,11 @@ pub fn few_weigh_less()
 /// So what it puts weighs less than the message that it heard.
 pub fn hearing_lightens()
     ensures { HearingLightens }
+{}
+
+/// So it is in every run: where an edge hears a neighbour, both ends of their connection stand and its session is up, whatever it puts
+/// is of a higher level than some message that was on its way to it.
+#[tactic(auto, using(crate::proofs::DeliverLemmas::runs_rise))]
+pub fn runs_rise()
+    ensures { RunsRise }
 {}

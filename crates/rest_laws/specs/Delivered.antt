@@ -1,0 +1,47 @@
+-- What an edge puts while it hears a neighbour with whom its session is up, in a run.
+use Rattle.std.specs.Prelude.{◌≡◌, ◌<◌, ◌⊎◌, ℕ, true, List, [], ◌∷◌, Some, take}
+use Rattle.std.specs.List.{AllByRecursion}
+use Rattle.net_base.specs.declared.plan.Plan.{Plan}
+use Rattle.net_base.specs.declared.plan.places.EdgeId.{EdgeId}
+use Rattle.net_base.specs.declared.trace.event.Event.{Event}
+use Rattle.ldp_grammar.specs.declared.message.Message.{Message}
+use Rattle.edge_model.specs.declared.effect.Effect.{Effect}
+use Rattle.edge_model.specs.declared.effect.Effect.TheVariants.{Said}
+use Rattle.edge_model.specs.Mend.{is_up_with}
+use Rattle.edge_model.specs.State.{EdgeState}
+use Rattle.network_model.specs.Connection.{hearing_work}
+use Rattle.network_model.specs.State.{NetworkState}
+use Rattle.flight_laws.specs.Laws.{AreOnWay, BothStand, IsRun, network_after}
+use Rattle.rest_laws.specs.Levels.{level_of}
+use Rattle.rest_laws.specs.Rises.{IsSaidAt}
+
+-- the message is one of these
+abbrev pub IsOneOf : Message → List Message → Type 0
+IsOneOf message [] = ⊥
+IsOneOf message (first ∷ rest) = (message ≡ first) ⊎ IsOneOf message rest
+
+-- octets for a peer spell a message about a wire, of a higher level than one of those that the edge hears from a neighbour
+pub record IsSaidAboveOne (plan : Plan) (edges : ℕ → EdgeState) (me from : ℕ) (heard : List Message) (peer : ℕ) (octets : List ℕ) : Type 0 where
+  pub message : Message
+  pub among : IsOneOf message heard
+  pub least : ℕ
+  pub has : level_of plan edges from me message ≡ Some least
+  pub level : ℕ
+  pub said : IsSaidAt plan edges me level peer octets
+  pub above : least < level
+
+-- so it is with an effect that says anything
+abbrev pub SaysAboveOne : Plan → (ℕ → EdgeState) → (me from : ℕ) → List Message → Effect → Type 0
+SaysAboveOne plan edges me from heard (Said peer octets) = IsSaidAboveOne plan edges me from heard peer.0 octets
+SaysAboveOne plan edges me from heard effect = Unit {0}
+
+-- whatever an edge puts when so many octets are delivered to it from a neighbour is so, of the messages that are on their way from there
+pub record RisesOn (plan : Plan) (network : NetworkState) (from to : EdgeId) (count : ℕ) : Type 0 where
+  pub heard : List Message
+  pub on_way : AreOnWay plan network from.0 to.0 heard
+  pub above : AllByRecursion (SaysAboveOne plan network.edges to.0 from.0 heard) (hearing_work plan network from to (take count (network.pipes from.0 to.0))).effects
+
+-- in every run, where both ends of the connection stand and the hearer's session is up
+abbrev pub RunsRise : Type 0
+RunsRise = (plan : Plan) (events : List Event) → IsRun plan events → (from to : EdgeId) (count : ℕ) → BothStand (network_after plan events) to.0 from.0
+    → is_up_with (((network_after plan events).edges to.0).peering from.0) ≡ true → RisesOn plan (network_after plan events) from to count
