@@ -27,6 +27,8 @@ MOST_JOBS = 4
 LOOK, TELL = 0.5, 30
 # What proving everything has taken, in minutes of one processor, and what the estimate adds for processors that wait for a crate below.
 WHOLE, WAITING = 120, 1.15
+# What a prover says of how far it is.
+SO_FAR = re.compile(rb"^so far: (\d+) of (\d+) functions", re.M)
 # The part behind which an estimate is what the minutes gone say, and no longer what proofs took elsewhere.
 KNOWN = 0.2
 
@@ -89,10 +91,13 @@ class Crate:
         return self.is_done and status != 0
 
     def part_done(self) -> float:
-        """Which part of it is proved, by the functions that its file names."""
+        """Which part of it is proved, by the functions that its file counts or names."""
         if not self.is_running():
             return float(self.is_done)
-        return min(0.95, self.log.read_bytes().count(b": proved\n") / self.functions)
+        text = self.log.read_bytes()
+        counted = SO_FAR.findall(text)
+        part = int(counted[-1][0]) / max(1, int(counted[-1][1])) if counted else text.count(b": proved\n") / self.functions
+        return min(0.95, part)
 
 
 class Proof:
