@@ -70,7 +70,7 @@ class Reader:
 
     def __init__(self, path: str, name: str, findings: Findings) -> None:
         self.path, self.name, self.findings = path, name, findings
-        self.number, self.octets = 0, 0
+        self.number, self.octets, self.is_whole = 0, 0, True
         self.interfaces: list[Interface] = []
 
     def packets(self) -> Iterator[Packet]:
@@ -89,6 +89,7 @@ class Reader:
 
     def cut_off(self) -> None:
         """The file ends within a packet."""
+        self.is_whole = False
         self.findings.tell("end", self.name, self.number + 1, "the file ends within it", "let tcpdump end by itself (kill -INT), and use -U")
 
     def records(self, file: BinaryIO, magic: bytes) -> Iterator[Packet]:
@@ -152,8 +153,6 @@ class Reader:
                 yield self.enhanced(block, order)
             elif kind in (pcapng.PCAPNG_BT_SPB, pcapng.PCAPNG_BT_PB):
                 raise self.fault("a packet without a time, or in an old block", "record it by tcpdump, dumpcap or tshark")
-            elif kind == STATISTICS:
-                self.lost(block[20:-4], order)
 
     def add_interface(self, block: bytes, order: str) -> None:
         """A description of an interface."""
@@ -207,13 +206,24 @@ class Reader:
         octets, told, name = uncooked(octets, interface.link)
         return Packet(time, self.number, octets, missing, told, name or interface.name, True)
 
-    def lost(self, found: bytes, order: str) -> None:
-        """What the statistics of an interface tell of packets that were not captured."""
-        for code, value in options(found, order):
-            if code in (DROPPED_BY_INTERFACE, DROPPED_BY_SYSTEM) and len(value) == 8:
-                count = struct.unpack(f"{order}Q", value)[0]
-                if count:
-                    tell_dropped(self.findings, self.name, count)
+
+def dropped_at_end(path: str) -> int:
+    """How many packets the kernel did not hand on, as the last block of a file in pcapng tells it; 0 of another file."""
+    with open(path, "rb") as file:
+        if file.read(4) != b"\n\r\r\n" or file.seek(0, os.SEEK_END) < 40:
+            return 0
+        file.seek(8)
+        order = "<" if file.read(1) == b"\x4d" else ">"
+        file.seek(-4, os.SEEK_END)
+        size = struct.unpack(f"{order}I", file.read(4))[0]
+        if not 24 <= size <= 65536 or file.seek(0, os.SEEK_END) < size:
+            return 0
+        file.seek(-size, os.SEEK_END)
+        block = file.read(size)
+    if struct.unpack_from(f"{order}I", block)[0] != STATISTICS:
+        return 0
+    found = options(block[20:-4], order)
+    return sum(struct.unpack(f"{order}Q", value)[0] for code, value in found if code in (DROPPED_BY_INTERFACE, DROPPED_BY_SYSTEM) and len(value) == 8)
 
 
 def tell_dropped(findings: Findings, name: str, count: int) -> None:

@@ -132,21 +132,28 @@ class BlockWriter:
         last. A frame in whose time something else happened has a tick among its lines."""
         out, circuit, octets = self.stretches, entered.circuit, entered.octets.hex()
         service, edge = self.inner.service[circuit], self.inner.edge[circuit]
-        block = Block(entered, self.inner, self.clocks)
+        block = Block(entered, self.inner, self.clocks) if entered.crossings else None
+        loose = block.loose if block is not None else [one for one in entered.leavings if self.inner.edge[one.circuit] != edge]
         wire = self.wire_at.get((service, edge))
-        makes_up = wire is not None and (not are_seen or disturbed and not block.first.crossings)
         out.event(f"frame {circuit} {octets}")
         if disturbed and wire is None:
             out.event("tick")
         out.entry(f"in {circuit} {entered.number} {octets}", entered.place)
-        self.tell(block.first, entered)
+        if block is not None:
+            self.tell(block.first, entered)
+        else:
+            for leaving in entered.leavings:
+                if self.inner.edge[leaving.circuit] == edge:
+                    self.leave(leaving, entered, 0)
+        makes_up = not are_seen or disturbed and (block is None or not block.first.crossings)
         made_up = self.make_up(entered, wire, edge) if makes_up and wire is not None else 0
         if disturbed and wire is not None:
             out.event("tick")
-        self.follow(block, entered)
+        if block is not None:
+            self.follow(block, entered)
         if made_up:
             out.event(f"arrive {made_up}")
-        for leaving in block.loose:
+        for leaving in loose:
             self.leave(leaving, entered, self.ways.hops(service, edge, self.inner.edge[leaving.circuit]))
 
     def make_up(self, entered: Entered, wire: Wire, edge: str) -> int:

@@ -3,6 +3,7 @@
 from __future__ import annotations
 
 import datetime
+import decimal
 import glob
 import os
 import re
@@ -16,12 +17,14 @@ TYPE_CHECKING = False
 if TYPE_CHECKING:
     from typing import Any
 
-TOP = {"plan": str, "flood": (int, float), "settle": (int, float), "clocks": (int, float), "own": list, "capture": list, "table": list}
+TIME = (int, float, str, datetime.datetime)
+TOP = {"plan": str, "flood": (int, float), "settle": (int, float), "clocks": (int, float), "own": list, "from": TIME, "until": TIME, "capture": list, "table": list}
 CAPTURE = {
     "file": str, "circuit": str, "circuits": list, "link": list, "at": str, "edge": str, "direction": str,
     "stations": list, "untagged": bool, "interface": str, "skew": (int, float), "log": str,
 }
 TABLE = {"file": str, "edge": str, "time": (int, float, datetime.datetime), "skew": (int, float)}
+SECONDS = re.compile(r"\d{1,12}(\.\d{1,9})?")
 ADDRESS = re.compile(r"[0-9a-fA-F]{2}([:-][0-9a-fA-F]{2}){5}")
 
 
@@ -44,7 +47,6 @@ class Row:
         self.interface: str = keys.get("interface", "")
         self.skew = nanoseconds(keys.get("skew", 0))
         self.log: str = os.path.join(os.path.dirname(path), keys["log"]) if "log" in keys else f"{path}.log"
-        self.is_whole = True
 
     def is_port(self) -> bool:
         """Whether it was taken at customers' ports."""
@@ -69,6 +71,7 @@ class Lab:
         self.plan_path = os.path.join(self.folder, keys["plan"])
         self.plan: Plan = read_plan(self.plan_path)
         self.flood, self.settle, self.clocks = (nanoseconds(keys.get(key, usual)) for key, usual in (("flood", 1), ("settle", 1), ("clocks", 0.001)))
+        self.begin, self.end = (self.time(keys[key]) if key in keys else None for key in ("from", "until"))
         self.own = {address_of(text, path) for text in keys.get("own", ())}
         self.captures = [self.row(number, row, skews) for number, row in enumerate(keys.get("capture", ()))]
         self.tables = [table for row in keys.get("table", ()) for table in self.tables_of(row)]
@@ -89,6 +92,15 @@ class Lab:
                 raise Fault(f"{self.path}, {where}: {key} has a value of another kind")
             if isinstance(value, list) and key not in ("capture", "table") and not all(isinstance(one, str) for one in value):
                 raise Fault(f"{self.path}, {where}: {key} is a list of texts")
+
+    def time(self, found: float | str | datetime.datetime) -> int:
+        """A time: in seconds since 1970, as a date, or as a file that has it in seconds."""
+        if isinstance(found, str):
+            text = text_of(os.path.join(self.folder, found)).strip()
+            if not SECONDS.fullmatch(text):
+                raise Fault(f"{found}: {text[:40]!r} is no time in seconds since 1970")
+            return int(decimal.Decimal(text) * SECOND)
+        return nanoseconds(found.timestamp() if isinstance(found, datetime.datetime) else found)
 
     def row(self, number: int, keys: Any, skews: dict[str, float]) -> Row:
         """A capture of its row."""
@@ -121,10 +133,8 @@ class Lab:
             raise Fault(f"{keys['file']}: the plan has no edge {edge!r}; there are: {', '.join(self.plan.edges)}")
         pattern = os.path.join(self.folder, keys["file"])
         paths = sorted(glob.glob(pattern)) or [pattern]
-        if isinstance(time, datetime.datetime):
-            time = time.timestamp()
         skew = nanoseconds(keys.get("skew", 0))
-        return [Table(path, os.path.relpath(path, self.folder or "."), edge, None if time is None else nanoseconds(time), skew) for path in paths]
+        return [Table(path, os.path.relpath(path, self.folder or "."), edge, None if time is None else self.time(time), skew) for path in paths]
 
 
 def address_of(text: str, where: str) -> bytes:

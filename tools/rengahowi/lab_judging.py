@@ -49,6 +49,10 @@ class Judging:
             self.judged[service] -= taken
             self.reasons["the station was heard"] += taken
 
+    def ran(self, first: int, last: int) -> bool:
+        """Whether all captures ran between two times, as far as LAB.toml tells."""
+        return not (self.lab.begin is not None and first < self.lab.begin or self.lab.end is not None and last > self.lab.end)
+
     def sites(self, entered: Entered) -> list[str]:
         """The circuits at which a flood has to leave."""
         service = self.inner.service[entered.circuit]
@@ -67,6 +71,8 @@ class Judging:
         service, whole = self.inner.service[entered.circuit], self.is_complete(entered)
         if is_reserved(entered.octets):
             return "they go to a group that a bridge may keep for itself (IEEE 802.1D)"
+        if not self.ran(entered.time, entered.time + self.lab.flood):
+            return "not all captures ran then (from and until of LAB.toml)"
         over = entered.last() if whole or are_seen and self.is_accounted(entered) else entered.time + self.lab.flood
         times = self.changes[service]
         place = bisect.bisect_right(times, entered.time - self.lab.settle)

@@ -3,13 +3,14 @@
 from __future__ import annotations
 
 import collections
+import contextlib
 import heapq
 import re
 import sys
 import time as clock
 import zlib
 
-from .capture_reading import IN, OUT, SECOND, Reader, tell_dropped
+from .capture_reading import IN, OUT, SECOND, Reader, dropped_at_end, tell_dropped
 from .findings import Findings
 from .lab_blocks import BlockWriter
 from .lab_frames import TAG, Entered, Inner, Leaving, Matcher, Past
@@ -17,7 +18,7 @@ from .lab_judging import Judging, is_reserved
 from .lab_links import Links
 from .lab_sessions import MPLS, Sessions, Step
 from .lab_stretches import Stretches
-from .lab_tables import tables_of
+from .lab_tables import DOWN, tables_of
 from .lab_wires import WiresOfLdp
 from .network import UP
 
@@ -57,6 +58,8 @@ class LabReport:
         self.held: collections.deque[tuple[int, bytes, Leaving]] = collections.deque()
         self.own: collections.Counter[str] = collections.Counter()
         self.unseen: collections.Counter[str] = collections.Counter()
+        # Of each capture at a port with a tag, whether there are frames with one and without.
+        self.tagged: dict[tuple[str, int], set[bool]] = {}
         self.octets, self.shown = 0, 0.0
         self.wait = lab.flood + lab.settle
         self.past_is_cut = False
@@ -123,15 +126,25 @@ class LabReport:
             last = max(last, packet.time + row.skew)
             yield last, row.number, packet.number, kind, (row, packet)
         self.octets += reader.octets
+        if not reader.is_whole:
+            self.is_part(row)
         if not reader.number:
             self.findings.tell("empty", row.name, 0, "the capture has no packet", "look whether its interface is the right one")
         if has_check:
             self.findings.tell("check", row.name, 0, "frames end in their frame check sequence, which is taken off")
 
+    def is_part(self, row: Row) -> None:
+        """A capture is not whole: what is missing there may be missing in the capture alone."""
+        self.judging.not_whole.update(row.circuits)
+        if row.direction != OUT:
+            self.blind.update(self.inner.service[circuit] for circuit in row.circuits)
+        if row.link or not row.circuits:
+            self.links.unknown.update(pair for pair, places in self.sessions.vantage.places.items() if pair == set(row.link) or not row.link and row.at in pair)
+
     def look_at(self, row: Row, packet: Packet, most: int, last: int) -> None:
         """What is wrong with a packet."""
         if packet.missing > 0:
-            row.is_whole = False
+            self.is_part(row)
             self.findings.tell("cut", row.name, packet.number, f"{packet.missing} octets of the packet are not there", "give tcpdump no -s, or -s 262144")
         if len(packet.octets) > most:
             text = f"{len(packet.octets)} octets are more than the service takes ({most - 4}): the card has joined frames, or they are too long"
@@ -139,19 +152,16 @@ class LabReport:
         if packet.time + row.skew < last:
             gap = (last - packet.time - row.skew) / SECOND
             self.findings.tell("falls", row.name, packet.number, f"its time is {gap:.6f} s before that of the packet before", "it is taken to be of that time; reordercap puts a capture in order")
-        if not row.is_whole:
-            self.judging.not_whole.update(row.circuits)
 
     def look_at_log(self, row: Row) -> None:
-        """What tcpdump said of a capture, where that was kept beside it."""
-        try:
-            with open(row.log, encoding="utf-8", errors="replace") as file:
-                found = DROPPED.search(file.read())
-        except OSError:
-            return
-        if found and int(found[1]):
-            tell_dropped(self.findings, row.name, int(found[1]))
-            self.judging.not_whole.update(row.circuits)
+        """What tcpdump said of a capture, where that was kept beside it, and what a capture says in its end."""
+        count = dropped_at_end(row.path)
+        with contextlib.suppress(OSError), open(row.log, encoding="utf-8", errors="replace") as file:
+            found = DROPPED.search(file.read())
+            count = max(count, int(found[1]) if found else 0)
+        if count:
+            tell_dropped(self.findings, row.name, count)
+            self.is_part(row)
 
     def take(self, time: int, kind: str, what: Any) -> None:
         """Something happens."""
@@ -168,6 +178,8 @@ class LabReport:
     def take_frame(self, time: int, row: Row, packet: Packet) -> None:
         """A frame at a port."""
         octets = packet.octets
+        if packet.missing > 0:
+            return
         circuit = self.circuit_of(row, octets)
         direction = row.direction or packet.direction
         if row.stations and not direction:
@@ -178,8 +190,11 @@ class LabReport:
         if not direction:
             self.findings.tell("direction", row.name, packet.number, "nothing tells whether the frame enters or leaves", 'capture by -Q in and -Q out, or name the stations behind the port (stations = [..])')
             return
-        if row.untagged and (tag := self.inner.tags[circuit]) is not None:
-            octets = octets[:12] + TAG + tag.to_bytes(2, "big") + octets[12:]
+        tag = self.inner.tags[circuit]
+        if tag is not None:
+            if row.untagged:
+                octets = octets[:12] + TAG + tag.to_bytes(2, "big") + octets[12:]
+            self.tagged.setdefault((row.name, tag), set()).add(octets[12:14] == TAG)
         place = row.number, packet.number
         if direction == IN:
             self.queue.append((time, "frame", self.matcher.enter(time, circuit, octets, place)))
@@ -199,7 +214,7 @@ class LabReport:
 
     def take_packet(self, time: int, row: Row, packet: Packet) -> None:
         """A packet between edges."""
-        if MPLS not in (packet.octets[12:14], packet.octets[16:18]):
+        if packet.missing > 0 or MPLS not in (packet.octets[12:14], packet.octets[16:18]):
             return
         found = self.links.read(row, packet)
         if found is not None:
@@ -229,6 +244,8 @@ class LabReport:
         told, derived = self.told.get((edge, wire)), self.derived.get((edge, wire))
         has_ldp = all(self.sessions.vantage.are_seen(*pair) for pair in self.plan.wires[wire].segments())
         state = told if told not in (None, UP) else derived if has_ldp else told
+        if told == DOWN and has_ldp and derived not in (None, UP):
+            state = derived  # which says more than that it is down
         if told is None and any(table.edge == edge for table in self.lab.tables):
             state = "NoLocal"
         self.queue.append((time, "wire", (edge, wire, state or "NoLocal")))
@@ -289,7 +306,8 @@ class LabReport:
             if self.is_own(octets):
                 self.own["to a reserved group" if is_reserved(octets) else "of its own"] += 1
                 return
-            if self.past_is_cut or self.blind & {self.inner.service[circuit]}:
+            ran = self.judging.ran(leaving.time - self.lab.flood, leaving.time)
+            if not ran or self.past_is_cut or self.blind & {self.inner.service[circuit]}:
                 self.unseen["frames left whose entry is not captured"] += 1
                 return
             self.stretches.event("tick")
@@ -329,6 +347,10 @@ class LabReport:
                             (self.links.others, "packets of pseudowires that carry no frame are left out, such as pings of VCCV")):
             if count:
                 self.findings.tell(text, self.lab.path, 0, f"{count} {text}")
+        for (name, tag), seen in self.tagged.items():
+            if True not in seen:
+                text = f"no frame of {name} has the tag {tag} of its circuit: it was captured behind a VLAN interface, or the card keeps tags apart"
+                self.findings.tell("tag", name, 0, text, "write untagged = true in its row, or turn offloading off (ethtool -K IFACE rxvlan off txvlan off)")
         for text, count in self.unseen.items():
             self.findings.tell(text, self.lab.path, 0, f"{count} times {text}; they are left out")
 

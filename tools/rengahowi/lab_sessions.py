@@ -110,12 +110,8 @@ class Sessions:
             return
         ends = (sender, segment.sport), (receiver, segment.dport)
         found = self.connections[frozenset((sender, receiver))]
-        before = len(found.found)
-        body = bytes(segment.data)
-        connection = found.take(ends, self.vantage.roles(row, sender, receiver), segment.seq, segment.flags, body, time)
-        if len(found.found) > before and not connection.is_whole:
-            text = f"the LDP connection of {sender} and {receiver} began before it, so its labels are not known"
-            self.findings.tell("begun", row.name, number, text, "begin the captures before LDP comes up, or clear the neighbours (clear mpls ldp neighbor)")
+        connection = found.take(ends, self.vantage.roles(row, sender, receiver), segment.seq, segment.flags, bytes(segment.data), time)
+        connection.seen = connection.seen or (row.name, number)
 
     def messages_of(self, pdus: list[bytes]) -> list[list[str]]:
         """The messages of each PDU, as the program decodes them; none of one that it refuses."""
@@ -131,7 +127,13 @@ class Sessions:
     def steps_of(self, found: Connections) -> Iterator[Step]:
         """What happened in the connections of two edges. Where one begins while an end of the one before stands, that is lost."""
         standing: set[str] = set()
-        for place, connection in enumerate(sorted(found.found, key=lambda one: one.time)):
+        found.found.sort(key=lambda one: one.time)
+        if found.found and not found.found[-1].is_whole:
+            a, b = found.found[-1].ends
+            text = f"the LDP connection of {a} and {b} began before it, so its labels are not known"
+            cure = "begin the captures before LDP comes up, or clear the neighbours (clear mpls ldp neighbor)"
+            self.findings.tell("begun", *(found.found[-1].seen or (self.lab.path, 0)), text, cure)
+        for connection in found.found:
             a, b = connection.ends
             for end, other in ((a, b), (b, a)):
                 if end in standing:

@@ -3,6 +3,7 @@
 from __future__ import annotations
 
 import array
+import collections
 import os
 import pathlib
 import tempfile
@@ -13,7 +14,7 @@ from .report import REPORT
 
 TYPE_CHECKING = False
 if TYPE_CHECKING:
-    from collections.abc import Callable, Iterable
+    from collections.abc import Callable
 
     from .lab_frames import Place
     from .plan import Plan
@@ -31,7 +32,8 @@ class Stretch:
         self.number = number
         handle, self.path = tempfile.mkstemp(prefix="rengahowi-lab-", suffix=".report")
         self.file = os.fdopen(handle, "w", encoding="ascii", buffering=1 << 20)
-        self.counts = dict.fromkeys(("> ", "in ", "lef", "sen", "dro"), 0)
+        # By the first two letters of a line, of which no two kinds have the same ones.
+        self.counts: collections.Counter[str] = collections.Counter()
         self.places = array.array("Q", [0])
         self.size, self.last, self.packets = 0, "", 0
         self.sources: set[tuple[str, str]] = set()
@@ -42,17 +44,12 @@ class Stretch:
         self.file.write(text + "\n")
         self.places.append(place)
         self.size += len(text) + 1
-        kind = "> " if text[:2] == "> " else text[:3]
-        if kind in self.counts:
-            self.counts[kind] += 1
-        if kind == "> ":
-            self.last = text
+        self.counts[text[:2]] += 1
 
     def end(self) -> None:
         """Writes the last line."""
-        events, *rest = self.counts.values()
-        counts = " ".join(f"{name}={count}" for name, count in zip(("in", "left", "sent", "dropped"), rest))
-        self.line(f"end events={events} {counts}", 0)
+        kinds = {"events": "> ", "in": "in", "left": "le", "sent": "se", "dropped": "dr"}
+        self.line("end " + " ".join(f"{name}={self.counts[kind]}" for name, kind in kinds.items()), 0)
         self.file.close()
 
     def place_of(self, line: int) -> Place:
@@ -80,6 +77,7 @@ class Stretches:
 
     def event(self, text: str) -> None:
         """An event."""
+        self.now.last = text
         self.now.line(f"> {text}", 0)
 
     def entry(self, text: str, place: Place) -> None:
@@ -88,7 +86,7 @@ class Stretches:
 
     def beside(self) -> None:
         """What is told next comes of no event of LDP that is seen: time has passed."""
-        if self.now.last[2:].split(" ")[0] not in ("connect", "deliver", "lose", "tick"):
+        if self.now.last.split(" ")[0] not in ("connect", "deliver", "lose", "tick"):
             self.event("tick")
 
     def connect(self, a: str, b: str) -> None:
@@ -191,8 +189,3 @@ class Stretches:
         self.owed.clear()
         self.now.end()
         self.done(self.now)
-
-
-def joined(lines: Iterable[str]) -> str:
-    """Lines as a text."""
-    return "".join(f"{line}\n" for line in lines)

@@ -10,7 +10,7 @@ import xml.etree.ElementTree
 from .capture_reading import SECOND, Reader
 from .command import Fault
 from .findings import Findings
-from .program import TOP
+from .program import path
 
 TYPE_CHECKING = False
 if TYPE_CHECKING:
@@ -45,7 +45,7 @@ class Auditor:
     def take(self, stretch: Stretch) -> None:
         """A stretch is judged as soon as one of those before it is."""
         self.count += 1
-        words = [str(TOP / "bin" / "vplsnet"), "audit", self.plan_path, stretch.path]
+        words = [path(), "audit", self.plan_path, stretch.path]
         process = subprocess.Popen(words, text=True, stdin=subprocess.DEVNULL, stdout=subprocess.PIPE, stderr=subprocess.PIPE)
         self.running.append((stretch, process))
         while len(self.running) >= AT_ONCE:

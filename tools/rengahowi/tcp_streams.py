@@ -56,6 +56,8 @@ class Connection:
     def __init__(self, ends: tuple[str, str], time: int, is_whole: bool) -> None:
         self.ends, self.time, self.is_whole = ends, time, is_whole
         self.first: dict[str, int] = {}
+        # The capture and the packet in which it was seen first.
+        self.seen: tuple[str, int] | None = None
         self.halves = {(end, role): Half() for end in ends for role in ("put", "heard")}
 
     def take(self, sender: str, roles: Iterable[str], number: int, flags: int, octets: bytes, time: int) -> None:

@@ -129,9 +129,9 @@ class LabCaptures:
     def segment(self, talk: Talk, sender: str, receiver: str, at: str, place: int, flags: int, octets: bytes = b"") -> None:
         """A segment at an end of a connection, at a place of its sender's stream."""
         ports = (talk.port, LDP) if sender == talk.active else (LDP, talk.port)
-        addresses = [self.plan.edges[edge]["address"] for edge in (sender, receiver)]
+        source, target = (self.plan.edges[edge]["address"] for edge in (sender, receiver))
         counts = (talk.first[sender] + place, talk.first[receiver] + 1 + talk.heard[sender] if flags & headers.ACK else 0)
-        self.link(sender, receiver, at, headers.tcp(*addresses, ports, counts, flags, octets))
+        self.link(sender, receiver, at, headers.tcp(source, target, ports, counts, flags, octets))
 
     def event(self, words: list[str]) -> None:
         """An event that applied."""
@@ -181,8 +181,8 @@ class LabCaptures:
 
     def mpls(self, sender: str, receiver: str, at: str, octets: bytes) -> None:
         """A packet of a pseudowire at an end of its link."""
-        addresses = [self.plan.edges[edge]["address"] for edge in (sender, receiver)]
-        self.link(sender, receiver, at, headers.ethernet(*addresses, headers.MPLS, octets))
+        source, target = (self.plan.edges[edge]["address"] for edge in (sender, receiver))
+        self.link(sender, receiver, at, headers.ethernet(source, target, headers.MPLS, octets))
 
     def connect(self, a: str, b: str) -> None:
         """The handshake, as both ends see it."""

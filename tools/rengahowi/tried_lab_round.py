@@ -23,7 +23,7 @@ from rengahowi.lab_file import read_lab
 from rengahowi.lab_report import LabReport
 from rengahowi.lab_verdict import Auditor, Telling
 from rengahowi.plan import read_plan
-from rengahowi.program import PROGRAM
+from rengahowi.program import path as program_path
 from rengahowi.tried_lab_captures import LabCaptures
 from rengahowi.tried_lab_runs import RandomRun
 
@@ -39,7 +39,7 @@ def audited(plan: pathlib.Path, lines: list[str]) -> str:
     """What the program says of a report: yes, or the rule that it breaks."""
     report = plan.with_name("own.report")
     report.write_text("\n".join(lines) + "\n", encoding="ascii")
-    done = subprocess.run([PROGRAM, "audit", plan, report], capture_output=True, text=True, check=False)
+    done = subprocess.run([program_path(), "audit", plan, report], capture_output=True, text=True, check=False)
     return "yes" if done.returncode == 0 else done.stderr.split()[-1]
 
 
@@ -79,7 +79,9 @@ class Round:
             path.unlink()
         plan = self.folder / "plan.toml"
         plan.write_text(text, encoding="utf-8")
-        lines = subprocess.run([PROGRAM, "replay", plan], capture_output=True, text=True, check=False).stdout.splitlines()
+        if not read_plan(plan).circuits:
+            return
+        lines = subprocess.run([program_path(), "replay", plan], capture_output=True, text=True, check=False).stdout.splitlines()
         self.counts["runs"] += 1
         table, rng = seed % 2 == 0, random.Random(seed)
         own, (rule, words, judged, _) = audited(plan, lines), self.judge(lines, seed, True, table)
@@ -119,8 +121,9 @@ def changed_lines(plan: Plan, lines: list[str], number: int, change: str, rng: r
     others = [name for name, row in plan.circuits.items() if row["service"] != plan.circuits[words[1]]["service"]]
     if change == "moved" and not others:
         return None
-    moved = " ".join([words[0], rng.choice(others), *words[2:]]) if change == "moved" else ""
-    new = {"taken out": [], "doubled": [lines[number]] * 2, "moved": [moved]}[change]
+    new = [lines[number]] * 2 if change == "doubled" else []
+    if change == "moved":
+        new = [" ".join([words[0], rng.choice(others), *words[2:]])]
     return counted([*lines[:number], *new, *lines[number + 1 :]])
 
 

@@ -35,10 +35,11 @@ class RandomRun:
             spokes = 1 if self.kind == "spokes" else 2
             rows = writing.hierarchy(rng.choice((2, 3)), rng.choice((1, 2)), circuits, spokes, services, tags, self.kind == "switching points")
         for wire in rows["wire"]:
-            offer = {"control_word": False} if rng.random() < 0.3 else {}
+            offer: dict[str, Any] = {"control_word": False} if rng.random() < 0.3 else {}
             offer |= {"mode": "tagged"} if rng.random() < 0.2 else {}
             offer |= {"vccv": rng.choice((1, 2, 4, 7))} if self.kind == "pings" else {}
-            offer |= {"status": False} if rng.random() < 0.1 else {}
+            # Which of several spokes an edge uses is told by statuses alone.
+            offer |= {"status": False} if wire["class"] == "mesh" and rng.random() < 0.2 else {}
             if offer:
                 wire["near"] = offer
         return rows
