@@ -3,7 +3,7 @@
 from __future__ import annotations
 
 from .learned import Learned
-from .network import UP, Network
+from .network import UP, Network, network_of
 from .pings import Pings
 from .reached import reach_of, reached
 from .report import ALWAYS
@@ -125,7 +125,7 @@ class Run:
     """A run as a report tells it, followed to its end."""
 
     def __init__(self, plan: Plan, report: Report) -> None:
-        self.plan, self.report, self.network = plan, report, Network(plan)
+        self.plan, self.report, self.network = plan, report, network_of(plan, report.rows)
         # The frames by their numbers as the report writes them, and those whose window is open; those that entered at the event that is
         # followed, and those that have no packet under way any more, as it began.
         self.frames: dict[str, Frame] = {}
@@ -210,7 +210,9 @@ class Run:
         """An event that connects edges or switches something, or a tick."""
         kind, *words = row[1:]
         self.network.apply(kind, words)
-        if kind == "restart":
+        if kind == "connect":
+            self.sessions.append((words[0], words[1]))
+        elif kind == "restart":
             self.learned.forget_edge(words[0])
         elif kind == "tick":
             self.learned.ticks += 1

@@ -63,6 +63,8 @@ class Rows:
             self.network.begin(event)
             if event.kind == "restart":
                 self.states_anew(event.words[0])
+            elif event.kind in ("connect", "lose"):
+                self.sessions_anew(*event.words)
             for entry in event.entries:
                 self.add(entry.line, getattr(self, entry.kind)(*entry.words))
                 self.network.take(entry)
@@ -95,6 +97,13 @@ class Rows:
         for lane in self.lanes:
             if lane["edge"] == edge:
                 self.change(lane, NEVER if lane["kind"] == "session" else "NoLocal")
+
+    def sessions_anew(self, *edges: str) -> None:
+        """Two edges are connected, or one has lost its end: in a report without sessions that is what is known of theirs."""
+        for a, b in (edges, edges[::-1]):
+            lane = self.lane_of.get(("session", a, b))
+            if lane is not None and lane["states"][-1][1] != self.network.sessions[a, b]:
+                self.change(lane, self.network.sessions[a, b])
 
     def change(self, lane: dict[str, Any], state: str) -> None:
         """A lane has another state from here on."""

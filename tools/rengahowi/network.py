@@ -18,6 +18,9 @@ UP = "up"
 NEVER = "NonExistent"
 # The type of an Address Withdraw, and where the type of a PDU's message stands, in hexadecimal (RFC 5036 sections 3.1 and 3.5.6).
 ADDRESS_WITHDRAW, MESSAGE = "0301", 20
+OPERATIONAL, CLOSED = "Operational", "Ended:Closed"
+# By what the sessions of a report are known: by its own lines, or in the report of a lab by the connections; else by nothing.
+TOLD, CONNECTED, UNTOLD = "told", "connected", "untold"
 
 
 class Pipe:
@@ -72,6 +75,7 @@ class Network:
         self.stands: set[tuple[str, str]] = set()
         self.pipes = {way: Pipe() for a, b in self.shape.pairs for way in ((a, b), (b, a))}
         self.sessions = {way: NEVER for way in self.pipes}
+        self.sessions_by = TOLD
         self.ends = {(edge, wire.name): "NoLocal" for wire in plan.wires.values() for edge in wire.ends()}
         self.switches = Switches(plan)
         self.sites_on: dict[str, list[str]] = {}  # of each service, where it was asked for since the last circuit went on or off
@@ -86,7 +90,7 @@ class Network:
     def copy(self) -> Network:
         """The same network, to which other things may happen."""
         made = Network.__new__(Network)
-        made.plan, made.shape, made.heard = self.plan, self.shape, self.heard
+        made.plan, made.shape, made.heard, made.sessions_by = self.plan, self.shape, self.heard, self.sessions_by
         made.pipes = {way: pipe.copy() for way, pipe in self.pipes.items()}
         made.switches = self.switches.copy()
         for name in ("stands", "sessions", "ends", "sites_on", "packets", "looked", "carrying", "told"):
@@ -132,11 +136,13 @@ class Network:
             for way in ((a, b), (b, a)):
                 self.stands.add(way)
                 self.pipes[way] = Pipe()
+                self.see_session(way, OPERATIONAL)
         elif kind == "deliver":
             pipe = self.pipes.get((words[0], words[1]))
             self.heard += 0 if pipe is None else pipe.deliver(int(words[2]))
         elif kind == "lose":
             self.close((words[0], words[1]))
+            self.see_session((words[0], words[1]), CLOSED)
         elif kind == "restart":
             self.restart(words[0])
         elif kind in ("arrive", "drop"):
@@ -145,6 +151,12 @@ class Network:
             self.switches.turn(kind, words)
             if kind == "circuit":
                 self.sites_on.clear()
+
+    def see_session(self, way: tuple[str, str], state: str) -> None:
+        """A session is known by its connection, where the report tells of no sessions."""
+        if self.sessions_by == CONNECTED:
+            self.sessions[way] = state
+            self.told.update(self.shape.over.get(frozenset(way), ()))
 
     def restart(self, edge: str) -> None:
         """An edge forgets its sessions and the ends of its wires, and tells nothing."""
@@ -200,7 +212,11 @@ class Network:
 
     def carries(self, wire: Wire) -> bool:
         """Whether a wire is up at both terminal edges, and each session along it at both ends."""
-        return all(self.ends[edge, wire.name] == UP for edge in wire.ends()) and all(self.is_up(a, b) for a, b in wire.segments())
+        return all(self.ends[edge, wire.name] == UP for edge in wire.ends()) and self.has_sessions(wire)
+
+    def has_sessions(self, wire: Wire) -> bool:
+        """Whether each session along a wire is up at both ends, or nothing tells of any session."""
+        return self.sessions_by == UNTOLD or all(self.is_up(a, b) for a, b in wire.segments())
 
     def may_send(self, edge: str, wire: str) -> bool:
         """Whether an edge that sends a packet on a wire has told that its end is up, or is a switching point of it: so it is in every run."""
@@ -231,7 +247,7 @@ class Network:
 
     def is_up(self, a: str, b: str) -> bool:
         """Whether the sessions of two edges are up at both ends."""
-        return self.sessions[a, b] == self.sessions.get((b, a)) == "Operational"
+        return self.sessions[a, b] == self.sessions.get((b, a)) == OPERATIONAL
 
     def is_connected(self, a: str, b: str) -> bool:
         """Whether both ends of a connection stand."""
@@ -282,8 +298,11 @@ class Network:
         so it is in every run where the service is quiet, and not in a report that leaves LDP out."""
         key = "sessions", service
         if key not in self.looked:
-            sessions = all(self.is_up(a, b) for a, b in self.shape.of[service].pairs if self.is_connected(a, b))
-            self.looked[key] = sessions and all(self.carries(wire) for wire in self.up_wires(service))
+            connected = [pair for pair in self.shape.of[service].pairs if self.is_connected(*pair)]
+            if self.sessions_by == TOLD:
+                self.looked[key] = all(self.is_up(*pair) for pair in connected) and all(map(self.carries, self.up_wires(service)))
+            else:
+                self.looked[key] = not connected and not self.up_wires(service)
         return bool(self.looked[key])
 
     def joined(self, service: str) -> set[Any]:
@@ -298,6 +317,16 @@ class Network:
                 ways.setdefault(b, []).append((a, wire))
         pair = self.shape.pair
         return {pair[start, edge] for start in ways for edge in walked(ways, start) if edge != start}
+
+
+def network_of(plan: Plan, rows: Iterable[Sequence[str]]) -> Network:
+    """The network before the first line of a report, whose lines are rows of words. Where they tell of no session, as those of a lab do, a
+    session is up while both ends of its connection stand; where they tell of no connection either, nothing is known of any."""
+    network = Network(plan)
+    kinds = {row[1] if row[0] == ">" else row[0] for row in rows}
+    if "session" not in kinds:
+        network.sessions_by = CONNECTED if "connect" in kinds else UNTOLD
+    return network
 
 
 class ShapeOfService:

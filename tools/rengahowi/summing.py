@@ -84,7 +84,7 @@ def wire_row(run: Run, wire: Wire) -> dict[str, Any]:
 def stands_by(network: Network, wire: Wire) -> bool:
     """Whether a spoke is one that could be used, and is not since another one is."""
     states = {network.ends[edge, wire.name] for edge in wire.ends()}
-    return wire.kind == "spoke" and "Standby" in states and states <= {"Standby", UP} and all(network.is_up(*pair) for pair in wire.segments())
+    return wire.kind == "spoke" and "Standby" in states and states <= {"Standby", UP} and network.has_sessions(wire)
 
 
 def service_row(plan: Plan, run: Run, service: str, first: int) -> dict[Any, Any]:
