@@ -1,15 +1,18 @@
 -- What a call has changed of an edge, whatever it answers: what it has heard so far, and what is kept of one peer.
-use Rattle.std.specs.Prelude.{◌≡◌, ◌==◌, ◌++◌, ℕ, false, List, [], ◌∷◌, Option, Some, None, if◌then◌else◌}
+use Rattle.std.specs.Prelude.{◌≡◌, ◌==◌, ◌++◌, ℕ, false, List, [], ◌∷◌, flat_map, Option, Some, None, if◌then◌else◌}
 use Rattle.net_base.specs.declared.plan.Plan.{Plan}
 use Rattle.net_base.specs.declared.plan.places.EdgeId.{EdgeId}
 use Rattle.pw_tlvs.specs.declared.pw_fec.PwFec.{PwFec}
 use Rattle.pw_tlvs.specs.declared.pw_status.PwStatus.{PwStatus}
+use Rattle.net_values.specs.Octets.{AreOctets}
 use Rattle.ldp_grammar.specs.declared.message.Message.{Message}
 use Rattle.ldp_grammar.specs.declared.message.Message.TheVariants.{Notification}
+use Rattle.ldp_grammar.specs.declared.pdu.Pdu.{Pdu}
+use Rattle.ldp_stream.specs.FrontOf.{Got, front_of}
 use Rattle.pw_messages.specs.Content.{pw_status_code}
 use Rattle.independent_model.specs.Calls.{is_connected}
 use Rattle.independent_model.specs.Hear.{learns}
-use Rattle.independent_model.specs.State.{IndepState}
+use Rattle.independent_model.specs.State.{ConnectionState, IndepState, Stopped, Receiver, Receiving, Broken}
 use Rattle.independent_model.specs.Wires.{wire_named}
 
 -- nothing but what is kept of one peer has changed, and the edge is connected with it as it was
@@ -47,3 +50,45 @@ pub record HearsFront (plan : Plan) (me : ℕ) (peer : EdgeId) (messages : List 
   pub rest : List Message
   pub split : messages ≡ front ++ rest
   pub changed : ChangesOnly peer.0 (learns_messages plan me peer front old) new
+
+-- ---- octets that come
+
+-- these PDUs stand in front of the octets, and others behind them (RFC 5036 section 3.1)
+abbrev pub ReadsTo : List Pdu → List ℕ → List ℕ → Type 0
+ReadsTo [] octets behind = octets ≡ behind
+ReadsTo (pdu ∷ pdus) octets behind = AreOctets octets × ((rest : List ℕ) × ((front_of 4096 octets ≡ Got pdu rest) × ReadsTo pdus rest behind))
+
+-- the messages of PDUs, in order
+abbrev pub messages_of : List Pdu → List Message
+messages_of pdus = flat_map (λ (pdu : Pdu). pdu.messages) pdus
+
+-- all messages of some PDUs in front of the octets were heard, and these octets are left
+pub record HearsAll (plan : Plan) (me : ℕ) (peer : EdgeId) (octets left : List ℕ) (old new : IndepState) : Type 0 where
+  pub pdus : List Pdu
+  pub read : ReadsTo pdus octets left
+  pub changed : ChangesOnly peer.0 (learns_messages plan me peer (messages_of pdus) old) new
+
+-- of some PDUs in front of the octets messages were heard, from the first one on, and no other one
+pub record HearsSome (plan : Plan) (me : ℕ) (peer : EdgeId) (octets : List ℕ) (old new : IndepState) : Type 0 where
+  pub pdus : List Pdu
+  pub left : List ℕ
+  pub read : ReadsTo pdus octets left
+  pub heard : HearsFront plan me peer (messages_of pdus) old new
+
+-- the octets of a peer that are no whole PDU yet, and those that come; of a stream that was refused nothing is said
+abbrev pub IsCome : Receiver → List ℕ → List ℕ → Type 0
+IsCome (Receiving base held) octets whole = whole ≡ held ++ octets
+IsCome (Broken base wrong) octets whole = Unit {0}
+IsCome Stopped octets whole = whole ≡ []
+
+-- the same by a connection; where there is none, nothing comes
+abbrev pub IsComeBy : Option ConnectionState → List ℕ → List ℕ → Type 0
+IsComeBy None octets whole = whole ≡ []
+IsComeBy (Some kept) octets whole = IsCome kept.receiver octets whole
+
+-- of the octets that are held of a peer and come messages were heard, from the first one on, and nothing else has changed but what is kept of
+-- the peer
+pub record HearsCome (plan : Plan) (me : ℕ) (peer : EdgeId) (octets : List ℕ) (old new : IndepState) : Type 0 where
+  pub whole : List ℕ
+  pub come : IsComeBy (old.connection peer.0) octets whole
+  pub some : HearsSome plan me peer whole old new

@@ -6,7 +6,7 @@ ghost use Rattle.status_exchange.specs.Wish.{is_same_wish};
 ghost use Rattle.independent_model.specs.Calls.{independent_connects, independent_hears, is_connected, loses, sets, uses};
 ghost use Rattle.independent_model.specs.State.{first_state, fresh_connection, with_connection, with_local};
 ghost use Rattle.independent_model.specs.{Stops.{EndsBy}, Wires.{other_end}, Work.{Comes, CallsGoOn, NeverRefused}};
-ghost use Rattle.independent_mode.specs.{Changed.{ChangesOnly}, Lists.{KeepsIndependent, independent_seen}, Receiver.{HoldsBy}};
+ghost use Rattle.independent_mode.specs.{Changed.{ChangesOnly, HearsCome}, Lists.{KeepsIndependent, independent_seen}, Receiver.{HoldsBy}};
 
 mod hearing;
 mod opening;
@@ -89,8 +89,9 @@ impl IndepEdge {
 
     /// Octets of a peer come, with which the edge is connected. Of the messages that they spell each one that tells the status of a wire with
     /// the peer is heard, and all others are ignored. `Refused` comes exactly where no `put` of this call has failed and the octets of the
-    /// connection have this fault; from then on it comes at each call.
-    #[tactic(auto, using(crate::proofs::HearLemmas::hears_none, crate::proofs::HearLemmas::heard_comes, crate::proofs::TellLemmas::same_calls, independent_model::proofs::StopLemmas::none_ends))]
+    /// connection have this fault; from then on it comes at each call. Whatever it answers, some of the messages were heard, from the first
+    /// one on, and nothing else has changed but what is kept of the peer.
+    #[tactic(auto, using(crate::proofs::HearLemmas::hears_none, crate::proofs::HearLemmas::heard_comes, crate::proofs::TellLemmas::same_calls, independent_model::proofs::StopLemmas::none_ends, crate::proofs::ChangedLemmas::come_none, crate::proofs::ChangedLemmas::come_some))]
     pub fn hear<L: Link>(
         &mut self,
         alloc: Global,
@@ -103,6 +104,7 @@ impl IndepEdge {
         ensures goes { CallsGoOn (L.calls link.old) (L.calls link.new) }
         ensures ends { EndsBy (L.calls link.old) (L.calls link.new) result }
         ensures step { (told : Answers) → Agrees told (L.calls link.new) → Comes result (independent_seen self.new) (L.calls link.new) (independent_hears self.old.plan told self.old.me.0 peer bytes.now (independent_seen self.old) (L.calls link.old)) }
+        ensures changed { HearsCome self.old.plan self.old.me.0 peer bytes.now (independent_seen self.old) (independent_seen self.new) }
     {
         let Some(mut receiver) = self.take_receiver(peer) else {
             return Ok(());

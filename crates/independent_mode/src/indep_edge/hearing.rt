@@ -3,7 +3,7 @@ ghost use Rattle.std.specs.Prelude.{◌≡◌, ◌<◌, ◌++◌, ℕ, List, Som
 ghost use Rattle.net_values.specs.Octets.{AreOctets};
 ghost use Rattle.pw_messages.specs.LinkAnswers.{Agrees, Answers};
 ghost use Rattle.independent_mode.specs.{Receiver.{IsTakenOut, IsReceiverWaiting, receiver_of, kept_after}, Heard.{HearsTo}};
-ghost use Rattle.independent_mode.specs.Changed.{ChangesOnly, HearsFront, learns_message, learns_messages, learns_notice};
+ghost use Rattle.independent_mode.specs.Changed.{ChangesOnly, HearsAll, HearsFront, HearsSome, learns_message, learns_messages, learns_notice};
 ghost use Rattle.independent_mode.specs.{Lists.{KeepsIndependent, independent_seen}, Speaking.{Speaks}};
 ghost use Rattle.independent_model.specs.Hear.{hears_at, independent_hears_message, independent_hears_messages, hears_notice, independent_hears_status, learns};
 ghost use Rattle.independent_model.specs.{State.{with_receiver, with_remote, without_remotes}, Wires.{is_between}};
@@ -122,7 +122,7 @@ impl IndepEdge {
     }
 
     // All the PDUs that are held are heard.
-    #[tactic(auto, using(crate::proofs::HearLemmas::at_got, crate::proofs::TellLemmas::same_calls))]
+    #[tactic(auto, using(crate::proofs::HearLemmas::at_got, crate::proofs::TellLemmas::same_calls, crate::proofs::ChangedLemmas::all_none, crate::proofs::ChangedLemmas::some_all))]
     fn hear_held<L: Link>(
         &mut self,
         receiver: &mut PeerStream,
@@ -134,6 +134,8 @@ impl IndepEdge {
         ensures keeps { KeepsIndependent self.old self.new }
         ensures goes { CallsGoOn (L.calls link.old) (L.calls link.new) }
         ensures waits { OnOk result (IsReceiverWaiting receiver.new) }
+        ensures all { OnOk result (HearsAll self.old.plan self.old.me.0 peer receiver.old.held receiver.new.held (independent_seen self.old) (independent_seen self.new)) }
+        ensures some { HearsSome self.old.plan self.old.me.0 peer receiver.old.held (independent_seen self.old) (independent_seen self.new) }
         ensures step { (told : Answers) (more : List ℕ) → Agrees told (L.calls link.new) → AreOctets more
             → HearsTo self.old.plan told self.old.me.0 peer result receiver.new more (independent_seen self.new) (L.calls link.new) (hears_at self.old.plan told self.old.me.0 peer (receiver_of receiver.old) more (independent_seen self.old) (L.calls link.old)) }
     {
@@ -152,7 +154,7 @@ impl IndepEdge {
     }
 
     // Octets are heard behind those that are held; those behind the last PDU are then held.
-    #[tactic(auto, using(crate::proofs::HearLemmas::all_heard, crate::proofs::TellLemmas::same_calls))]
+    #[tactic(auto, using(crate::proofs::HearLemmas::all_heard, crate::proofs::TellLemmas::same_calls, crate::proofs::ChangedLemmas::all_start))]
     pub(crate) fn hear_octets<L: Link>(
         &mut self,
         receiver: &mut PeerStream,
@@ -166,6 +168,7 @@ impl IndepEdge {
         ensures goes { CallsGoOn (L.calls link.old) (L.calls link.new) }
         ensures step { (told : Answers) → Agrees told (L.calls link.new)
             → Comes result (kept_after peer.0 receiver.new result (independent_seen self.new)) (L.calls link.new) (hears_at self.old.plan told self.old.me.0 peer (receiver_of receiver.old) octets.now (independent_seen self.old) (L.calls link.old)) }
+        ensures some { HearsSome self.old.plan self.old.me.0 peer (receiver.old.held ++ octets.now) (independent_seen self.old) (independent_seen self.new) }
     {
         let mut at = 0;
         'hearing: loop {

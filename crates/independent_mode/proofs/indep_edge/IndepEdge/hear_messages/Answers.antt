@@ -42,7 +42,8 @@ loop-place-preserved g c =
       step = λ told agrees.
           c.loop-place.invariant.step told (agrees_before told calls after c.hear_message.ensures.speaks.goes agrees)
           ∙ goes_then (independent_hears_message plan told me c.args.peer message (independent_seen c.loop-place.self) calls)
-          (independent_hears_messages plan told me c.args.peer (drop c.loop-place.place c.args.messages.now) (independent_seen c.loop-place.self) calls) (independent_seen c.hear_message.new.self) after
+          (independent_hears_messages plan told me c.args.peer (drop c.loop-place.place c.args.messages.now) (independent_seen c.loop-place.self) calls)
+          (independent_seen c.hear_message.new.self) after
           (λ e k. independent_hears_messages plan told me c.args.peer (drop (c.loop-place.place + 1) c.args.messages.now) e k)
           (messages_more plan told me c.args.peer c.args.messages.now c.loop-place.place message (independent_seen c.loop-place.self) calls within at)
           (subst (λ (p : Plan). independent_hears_message p told me c.args.peer message (independent_seen c.loop-place.self) calls ≡ Goes (independent_seen c.hear_message.new.self) after)

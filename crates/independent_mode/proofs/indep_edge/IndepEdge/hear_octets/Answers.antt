@@ -1,12 +1,14 @@
 -- Once what was held is heard and one more piece is held, hearing what is left from there is hearing all from the start.
-use Rattle.std.proofs.Common.{◌≡◌, ◌∙◌, drop, subst, arith}
+use Rattle.std.proofs.Common.{◌≡◌, ◌∙◌, ◌++◌, drop, subst, take, arith}
 use Rattle.net_base.specs.declared.plan.Plan.{Plan}
 use Rattle.net_base.specs.declared.plan.places.EdgeId.{EdgeId}
 use Rattle.net_values.specs.Octets.{AreOctets}
-use Rattle.ldp_grammar.proofs.OctetLemmas.{octets_drop}
+use Rattle.ldp_grammar.proofs.OctetLemmas.{octets_drop, octets_take}
 use Rattle.independent_model.specs.Hear.{hears_at}
 use Rattle.independent_mode.specs.Receiver.{receiver_of}
 use Rattle.independent_mode.specs.Lists.{independent_seen}
+use Rattle.independent_mode.specs.Changed.{HearsAll, HearsSome}
+use Rattle.independent_mode.proofs.ChangedLemmas.{all_both, all_fed, some_both, some_fed}
 use Rattle.independent_mode.proofs.HearLemmas.{fed_at, on_ok}
 use Rattle.independent_mode.proofs.TellLemmas.{agrees_before, goes_both, keeps_both}
 use Rattle.independent_mode.proofs.indep_edge.IndepEdge.hear_octets.Goals as goal
@@ -23,6 +25,14 @@ hearing-preserved g c =
       keeps = keeps_both c.args.self.now c.hearing.self c.hear_held.new.self c.hearing.invariant.keeps c.hear_held.ensures.keeps;
       goes = goes_both (g.L.Link.calls c.args.link.now) calls after c.hearing.invariant.goes c.hear_held.ensures.goes;
       within = c.feed_from-at.ensures.within;
+      heard = all_fed plan me c.args.peer c.args.receiver.now.held c.args.octets.now c.hearing.at c.feed_from-at.result c.hear_held.new.receiver c.feed_from-at.new.self
+          (independent_seen c.args.self.now) (independent_seen c.hear_held.new.self) (octets_take c.feed_from-at.result left (octets_drop c.hearing.at c.args.octets.now octets)) c.feed_from-at.ensures.held
+          (all_both plan me c.args.peer (c.args.receiver.now.held ++ take c.hearing.at c.args.octets.now) c.hearing.receiver.held c.hear_held.new.receiver.held (independent_seen c.args.self.now)
+          (independent_seen c.hearing.self) (independent_seen c.hear_held.new.self) c.hearing.invariant.heard
+          (subst (λ (p : Plan). HearsAll p me c.args.peer c.hearing.receiver.held c.hear_held.new.receiver.held (independent_seen c.hearing.self) (independent_seen c.hear_held.new.self))
+          c.hearing.invariant.keeps.plan
+          (subst (λ (m : EdgeId). HearsAll c.hearing.self.plan m.0 c.args.peer c.hearing.receiver.held c.hear_held.new.receiver.held (independent_seen c.hearing.self)
+          (independent_seen c.hear_held.new.self)) c.hearing.invariant.keeps.me c.in-Ok.ensures.all)));
       step = λ told agrees.
           c.hearing.invariant.step told (agrees_before told calls after c.hear_held.ensures.goes agrees)
           ∙ (subst (λ (p : Plan). hears_at p told me c.args.peer (receiver_of c.hearing.receiver) left (independent_seen c.hearing.self) calls
@@ -34,3 +44,29 @@ hearing-preserved g c =
           ∙ fed_at plan told me c.args.peer c.hear_held.new.receiver c.feed_from-at.new.self c.args.octets.now c.hearing.at c.feed_from-at.result
           (independent_seen c.hear_held.new.self) after c.in-Ok.ensures.waits c.feed_from-at.ensures.held);
     }
+
+pub returns-in-Err-clause-some : goal.returns-in-Err-clause-some
+returns-in-Err-clause-some g c =
+    let octets : AreOctets c.args.octets.now = λ i. omega (arith, c.type_inv.octets i) in
+    let plan = c.args.self.now.plan in
+    let me = c.args.self.now.me.0 in
+    some_fed plan me c.args.peer c.args.receiver.now.held c.args.octets.now c.hearing.at (independent_seen c.args.self.now) (independent_seen c.hear_held.new.self)
+    (octets_drop c.hearing.at c.args.octets.now octets)
+    (some_both plan me c.args.peer (c.args.receiver.now.held ++ take c.hearing.at c.args.octets.now) c.hearing.receiver.held (independent_seen c.args.self.now) (independent_seen c.hearing.self)
+    (independent_seen c.hear_held.new.self) c.hearing.invariant.heard
+    (subst (λ (p : Plan). HearsSome p me c.args.peer c.hearing.receiver.held (independent_seen c.hearing.self) (independent_seen c.hear_held.new.self)) c.hearing.invariant.keeps.plan
+    (subst (λ (m : EdgeId). HearsSome c.hearing.self.plan m.0 c.args.peer c.hearing.receiver.held (independent_seen c.hearing.self) (independent_seen c.hear_held.new.self))
+    c.hearing.invariant.keeps.me c.hear_held.ensures.some)))
+
+pub returns-then-at-octets-clause-some : goal.returns-then-at-octets-clause-some
+returns-then-at-octets-clause-some g c =
+    let octets : AreOctets c.args.octets.now = λ i. omega (arith, c.type_inv.octets i) in
+    let plan = c.args.self.now.plan in
+    let me = c.args.self.now.me.0 in
+    some_fed plan me c.args.peer c.args.receiver.now.held c.args.octets.now c.hearing.at (independent_seen c.args.self.now) (independent_seen c.hear_held.new.self)
+    (octets_drop c.hearing.at c.args.octets.now octets)
+    (some_both plan me c.args.peer (c.args.receiver.now.held ++ take c.hearing.at c.args.octets.now) c.hearing.receiver.held (independent_seen c.args.self.now) (independent_seen c.hearing.self)
+    (independent_seen c.hear_held.new.self) c.hearing.invariant.heard
+    (subst (λ (p : Plan). HearsSome p me c.args.peer c.hearing.receiver.held (independent_seen c.hearing.self) (independent_seen c.hear_held.new.self)) c.hearing.invariant.keeps.plan
+    (subst (λ (m : EdgeId). HearsSome c.hearing.self.plan m.0 c.args.peer c.hearing.receiver.held (independent_seen c.hearing.self) (independent_seen c.hear_held.new.self))
+    c.hearing.invariant.keeps.me c.hear_held.ensures.some)))
