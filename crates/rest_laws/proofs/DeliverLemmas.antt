@@ -1,5 +1,5 @@
 -- While an edge hears a neighbour with whom its session is up, whatever it puts is of a higher level than a message that it has heard.
-use Rattle.std.proofs.Common.{◌≡◌, ◌++◌, ◌∙◌, ◌<◌, ◌⊎◌, ℕ, suc, Bool, true, false, cond, nat_eq, length, take, drop, List, [], ◌∷◌, Option, Some, None, option_and_then, refl, sym, ap, subst, inl, inr, ⊎_elim, append_assoc}
+use Rattle.std.proofs.Common.{◌≡◌, ◌++◌, ◌∙◌, ◌<◌, ◌⊎◌, ℕ, suc, Bool, true, false, cond, nat_eq, length, take, drop, List, [], ◌∷◌, Option, Some, None, option_and_then, refl, sym, ap, subst, inl, inr, ⊎_elim, append_assoc, ◌≤◌, ◌+◌, arith, map, zero-add}
 use Rattle.std.proofs.lemmas.Bool.{cases_Bool, eqb-true}
 use Rattle.std.proofs.lemmas.List.{take-append-drop}
 use Rattle.std.proofs.lemmas.Option.{same_Some}
@@ -47,7 +47,7 @@ use Rattle.flight_laws.specs.Across.{IsMappingTaken, TakesAll}
 use Rattle.flight_laws.specs.Ends.{HasTypes, IsOrdered, ends_at}
 use Rattle.flight_laws.specs.Facts.{flight}
 use Rattle.flight_laws.specs.Laws.{AreOnWay, BothStand, IsRun, network_after}
-use Rattle.flight_laws.specs.Messages.{IsSaidAcross, octets_of_all}
+use Rattle.flight_laws.specs.Messages.{AreSaid, IsSaidAcross, octets_of_all}
 use Rattle.flight_laws.specs.Pair.{AreFit, ArePaired, AreTalking}
 use Rattle.flight_laws.specs.Rules.{AllMessages, FarTells, TellsOfWire}
 use Rattle.flight_laws.proofs.ActLemmas.{steady_acts}
@@ -73,14 +73,16 @@ use Rattle.flight_laws.proofs.StayLemmas.{received_goes}
 use Rattle.flight_laws.proofs.SteadyLemmas.{IsSteady, steady_rows}
 use Rattle.flight_laws.proofs.ToldLemmas.{TellsFirm, TellsOwn}
 use Rattle.flight_laws.proofs.WorksLemmas.{changed_edge, gives_spares}
-use Rattle.rest_laws.specs.Delivered.{IsOneOf, RisesOn, RunsRise, SaysAboveOne}
+use Rattle.rest_laws.specs.Delivered.{IsOneOf, LightensOn, RisesOn, RunsLighten, RunsRise, SaysAboveOne, weigh_one, weight}
 use Rattle.rest_laws.specs.Levels.{Saying, Binds, Withdraws, Releases, States, Clears, level, level_at, level_by, level_of, pw_id_of, saying_of}
-use Rattle.rest_laws.specs.Rises.{AreSaidAt, HasMended, HoldsByPlan, IsByPlan, PutsAbove, put_most}
+use Rattle.rest_laws.specs.Rises.{AreSaidAt, HasMended, HoldsByPlan, IsByPlan, PutsAbove, left_above, put_most}
+use Rattle.rest_laws.specs.Weight.{heavy, total}
+use Rattle.rest_laws.proofs.WeightLemmas.{heavy_some}
 use Rattle.rest_laws.proofs.ClearLemmas.{put_mended}
 use Rattle.rest_laws.proofs.DueLemmas.{PutsMore, PutsWell}
 use Rattle.rest_laws.proofs.PutLemmas.{HasPut, changed_effects}
 use Rattle.rest_laws.proofs.StillLemmas.{mended_puts_none}
-use Rattle.rest_laws.proofs.RiseLemmas.{hearing_rises}
+use Rattle.rest_laws.proofs.RiseLemmas.{hearing_lightens, hearing_rises}
 
 -- ---- a session stays up
 
@@ -226,6 +228,38 @@ says_nothing_at_all plan me edges from all [] none = tt
 says_nothing_at_all plan me edges from all (effect.Said peer octets ∷ es) none = clash none.0.allowed
 says_nothing_at_all plan me edges from all (e ∷ es) none = (tt, says_nothing_at_all plan me edges from all es none.1)
 
+-- ---- levels of what is put
+
+levels_joined : (plan : Plan) (edges : ℕ → EdgeState) (me : ℕ) (es more : List Effect) (levels put : List ℕ) → AreSaidAt plan edges me es levels → AreSaidAt plan edges me more put
+    → AreSaidAt plan edges me (es ++ more) (levels ++ put)
+levels_joined plan edges me [] more [] put are others = others
+levels_joined plan edges me [] more (l ∷ levels) put are others = absurd are
+levels_joined plan edges me (effect.Said peer octets ∷ es) more [] put are others = absurd are
+levels_joined plan edges me (effect.Said peer octets ∷ es) more (l ∷ levels) put are others = (are.0, levels_joined plan edges me es more levels put are.1 others)
+levels_joined plan edges me (e ∷ es) more levels put are others = levels_joined plan edges me es more levels put are others
+
+-- nothing may be said
+no_levels : (plan : Plan) (me : EdgeId) (edges : ℕ → EdgeState) (es : List Effect) → AllByRecursion (PutsWell plan me (λ place saying. false)) es → AreSaidAt plan edges me.0 es []
+no_levels plan me edges [] none = tt
+no_levels plan me edges (effect.Said peer octets ∷ es) none = clash none.0.allowed
+no_levels plan me edges (e ∷ es) none = no_levels plan me edges es none.1
+
+sum_joined : (h a b c : ℕ) → c ≡ a + b → h + c ≡ (h + a) + b
+sum_joined h a b c is = omega (arith, is)
+
+total_joined : (few : ℕ) (levels put : List ℕ) → total few (map left_above (levels ++ put)) ≡ total few (map left_above levels) + total few (map left_above put)
+total_joined few [] put = sym (zero-add (total few (map left_above put)))
+total_joined few (l ∷ levels) put =
+    sum_joined (heavy few (left_above l)) (total few (map left_above levels)) (total few (map left_above put)) (total few (map left_above (levels ++ put))) (total_joined few levels put)
+
+end_same : {A : Type 0} (xs : List A) → xs ++ [] ≡ xs
+end_same [] = refl
+end_same (x ∷ xs) = λ i. x ∷ end_same xs i
+
+weighs_some : (few : ℕ) (o : Option ℕ) → 0 < weigh_one few o
+weighs_some few None = omega arith
+weighs_some few (Some level) = heavy_some few (left_above level)
+
 -- ---- hearing
 
 module _ (plan : Plan) (checked : IsChecked plan) (types : HasTypes plan) (later : NetworkState) (me peer : EdgeId) (apart : nat_eq me.0 peer.0 ≡ false) (away : nat_eq peer.0 me.0 ≡ false)
@@ -307,44 +341,48 @@ module _ (plan : Plan) (checked : IsChecked plan) (types : HasTypes plan) (later
     among : AllMessages (λ m. IsOneOf m all) messages
     puts : AllByRecursion (SaysAboveOne plan others me.0 peer.0 all) work.effects
 
+  -- what comes of a message that has a level
+  rises_of : (m : Message) (messages : List Message) (kept : Peering) (work : Work) → work.edge.peering peer.0 ≡ Some kept → Keeps (m ∷ messages) work → (has : HasLevel plan others peer me m)
+      → PutsAbove plan others me.0 has.least (put_most plan me m) work.effects (mends plan taken_all (acts_on plan taken_all peer m work)).effects
+  rises_of m messages kept work at keeps has =
+      subst (λ (k : EdgeId). PutsAbove plan others k.0 has.least (put_most plan k m) work.effects (mends plan taken_all (acts_on plan taken_all peer m work)).effects) placed_here
+      (hearing_rises plan checked others peer m has.least work (ap is_there at) mended (ap (λ (k : EdgeId). (others k.0).bits) placed_here ∙ keeps.bits)
+      (holds_by_plan plan checked others peer me work.edge placed_here keeps.ruled.works.edge.tells)
+      (goes_by_plan plan checked others peer me work.edge placed_here m keeps.ruled.to_hear.0.tells keeps.taken.0)
+      (ap (λ (k : EdgeId). level_of plan others peer.0 k.0 m) placed_here ∙ has.is))
+    where
+      placed_here : work.edge.me ≡ me
+      placed_here = keeps.mended.me
+
+      mended : HasMended plan work.edge
+      mended = record {
+        ends = subst (λ (k : EdgeId). AllByRecursion (λ place. is_mended plan work.edge place ≡ true) (end_places plan k)) (sym placed_here) keeps.mended.ends;
+        statuses = subst (λ (k : EdgeId). AllByRecursion (λ place. is_told plan work.edge place ≡ true) (end_places plan k)) (sym placed_here) keeps.mended.statuses;
+        chosen = keeps.mended.chosen;
+      }
+
+  -- and of one on which the edge does nothing
+  none_of : (m : Message) (messages : List Message) (work : Work) → Keeps (m ∷ messages) work → ((w : Work) → acts_on plan taken_all peer m w ≡ w)
+      → PutsMore plan me (λ place saying. false) work.effects (mends plan taken_all (acts_on plan taken_all peer m work)).effects
+  none_of m messages work keeps none =
+      subst (λ (w : Work). PutsMore plan me (λ place saying. false) work.effects (mends plan taken_all w).effects) (sym (none work)) (mended_puts_none plan me (λ place saying. false) work keeps.mended)
+
   -- what comes of one message
   message_above : (m : Message) (messages : List Message) (kept : Peering) (work : Work) → work.edge.peering peer.0 ≡ Some kept → IsSaidAcross (ends_at plan peer.0 me.0) m → Keeps (m ∷ messages) work
       → AllByRecursion (SaysAboveOne plan others me.0 peer.0 all) (mends plan taken_all (acts_on plan taken_all peer m work)).effects
-  message_above m messages kept work at said keeps = ⊎_elim leveled unleveled (class_of plan checked others peer me (ends_at plan peer.0 me.0) m said tells) where
-    tells : TellsFirm plan peer.0 me.0 m
-    tells = keeps.ruled.to_hear.0.tells
-
-    placed_here : work.edge.me ≡ me
-    placed_here = keeps.mended.me
-
-    mended : HasMended plan work.edge
-    mended = record {
-      ends = subst (λ (k : EdgeId). AllByRecursion (λ place. is_mended plan work.edge place ≡ true) (end_places plan k)) (sym placed_here) keeps.mended.ends;
-      statuses = subst (λ (k : EdgeId). AllByRecursion (λ place. is_told plan work.edge place ≡ true) (end_places plan k)) (sym placed_here) keeps.mended.statuses;
-      chosen = keeps.mended.chosen;
-    }
-
+  message_above m messages kept work at said keeps = ⊎_elim leveled unleveled (class_of plan checked others peer me (ends_at plan peer.0 me.0) m said keeps.ruled.to_hear.0.tells) where
     leveled : HasLevel plan others peer me m → AllByRecursion (SaysAboveOne plan others me.0 peer.0 all) (mends plan taken_all (acts_on plan taken_all peer m work)).effects
     leveled has =
-        let rises : PutsAbove plan others work.edge.me.0 has.least (put_most plan work.edge.me m) work.effects (mends plan taken_all (acts_on plan taken_all peer m work)).effects =
-        hearing_rises plan checked others peer m has.least work (ap is_there at) mended (ap (λ (k : EdgeId). (others k.0).bits) placed_here ∙ keeps.bits)
-        (holds_by_plan plan checked others peer me work.edge placed_here keeps.ruled.works.edge.tells)
-        (goes_by_plan plan checked others peer me work.edge placed_here m tells keeps.taken.0)
-        (ap (λ (k : EdgeId). level_of plan others peer.0 k.0 m) placed_here ∙ has.is) in
+        let rises = rises_of m messages kept work at keeps has in
         subst (AllByRecursion (SaysAboveOne plan others me.0 peer.0 all)) (sym rises.joined)
         (all-append (SaysAboveOne plan others me.0 peer.0 all) work.effects rises.more keeps.puts
-        (puts_above_one plan others me.0 peer.0 has.least all m keeps.among.0 has.is rises.more rises.levels
-        (ap_place rises.more rises.levels rises.are) rises.above))
-      where
-        ap_place : (es : List Effect) (levels : List ℕ) → AreSaidAt plan others work.edge.me.0 es levels → AreSaidAt plan others me.0 es levels
-        ap_place es levels are = subst (λ (k : EdgeId). AreSaidAt plan others k.0 es levels) placed_here are
+        (puts_above_one plan others me.0 peer.0 has.least all m keeps.among.0 has.is rises.more rises.levels rises.are rises.above))
 
     unleveled : ((w : Work) → acts_on plan taken_all peer m w ≡ w) → AllByRecursion (SaysAboveOne plan others me.0 peer.0 all) (mends plan taken_all (acts_on plan taken_all peer m work)).effects
     unleveled none =
-        let puts : PutsMore plan me (λ place saying. false) work.effects (mends plan taken_all work).effects = mended_puts_none plan me (λ place saying. false) work keeps.mended in
-        subst (λ (w : Work). AllByRecursion (SaysAboveOne plan others me.0 peer.0 all) (mends plan taken_all w).effects) (sym (none work))
-        (subst (AllByRecursion (SaysAboveOne plan others me.0 peer.0 all)) (sym puts.joined)
-        (all-append (SaysAboveOne plan others me.0 peer.0 all) work.effects puts.more keeps.puts (says_nothing_at_all plan me others peer.0 all puts.more puts.well)))
+        let puts = none_of m messages work keeps none in
+        subst (AllByRecursion (SaysAboveOne plan others me.0 peer.0 all)) (sym puts.joined)
+        (all-append (SaysAboveOne plan others me.0 peer.0 all) work.effects puts.more keeps.puts (says_nothing_at_all plan me others peer.0 all puts.more puts.well))
 
   -- the message is heard
   heard_is : (m : Message) (messages : List Message) (kept : Peering) (work : Work) → work.edge.peering peer.0 ≡ Some kept → IsSaidAcross (ends_at plan peer.0 me.0) m → Rising (m ∷ messages) work
@@ -421,6 +459,110 @@ module _ (plan : Plan) (checked : IsChecked plan) (types : HasTypes plan) (later
   heard_above more result heard =
       subst (λ (w : Work). AllByRecursion (SaysAboveOne plan others me.0 peer.0 all) (mends plan taken_all w).effects) (sym heard.is)
       (holds_above heard.rest heard.later heard.last heard.keeps (heard.last.edge.peering peer.0) refl)
+
+  -- ---- weights
+
+  module _ (few : ℕ) (enough : AllMessages (λ m. put_most plan me m ≤ few) all) where
+    abbrev weigh : List Message → ℕ
+    weigh messages = weight plan others peer.0 me.0 few messages
+
+    -- what was put so far, what is to be heard, and one for each message that was heard, weigh no more than all at first
+    record Lightens (messages : List Message) (work : Work) : Type 0 where
+      keeps : Keeps messages work
+      levels : List ℕ
+      are : AreSaidAt plan others me.0 work.effects levels
+      gone : ℕ
+      counted : gone + length messages ≡ length all
+      short : AllMessages (λ m. put_most plan me m ≤ few) messages
+      light : total few (map left_above levels) + (weigh messages + gone) ≤ weigh all
+
+    -- of one message
+    record Step (m : Message) (work next : Work) : Type 0 where
+      more : List Effect
+      joined : next.effects ≡ work.effects ++ more
+      put : List ℕ
+      are_put : AreSaidAt plan others me.0 more put
+      lighter_than : total few (map left_above put) < weigh_one few (level_of plan others peer.0 me.0 m)
+
+    stepped : (m : Message) (messages : List Message) (kept : Peering) (work : Work) → work.edge.peering peer.0 ≡ Some kept → IsSaidAcross (ends_at plan peer.0 me.0) m → put_most plan me m ≤ few → Keeps (m ∷ messages) work
+        → Step m work (mends plan taken_all (acts_on plan taken_all peer m work))
+    stepped m messages kept work at said short keeps = ⊎_elim leveled unleveled (class_of plan checked others peer me (ends_at plan peer.0 me.0) m said keeps.ruled.to_hear.0.tells) where
+      leveled : HasLevel plan others peer me m → Step m work (mends plan taken_all (acts_on plan taken_all peer m work))
+      leveled has =
+          let rises = rises_of m messages kept work at keeps has in
+          record {
+            more = rises.more;
+            joined = rises.joined;
+            put = rises.levels;
+            are_put = rises.are;
+            lighter_than = subst (λ (o : Option ℕ). total few (map left_above rises.levels) < weigh_one few o) (sym has.is)
+                (hearing_lightens plan checked others me peer m has.least few work.effects (mends plan taken_all (acts_on plan taken_all peer m work)).effects has.is rises short);
+          }
+
+      unleveled : ((w : Work) → acts_on plan taken_all peer m w ≡ w) → Step m work (mends plan taken_all (acts_on plan taken_all peer m work))
+      unleveled none =
+          let puts = none_of m messages work keeps none in
+          record {
+            more = puts.more;
+            joined = puts.joined;
+            put = [];
+            are_put = no_levels plan me others puts.more puts.well;
+            lighter_than = weighs_some few (level_of plan others peer.0 me.0 m);
+          }
+
+    goes_lighter : (old put now left gone all : ℕ) → old + ((now + left) + gone) ≤ all → put < now → (old + put) + (left + suc gone) ≤ all
+    goes_lighter old put now left gone all light less = omega (arith, light, less)
+
+    one_less : (gone left all : ℕ) → gone + suc left ≡ all → suc gone + left ≡ all
+    one_less gone left all is = omega (arith, is)
+
+    lightens_messages : KeptByMessages plan peer (ends_at plan peer.0 me.0) Lightens
+    lightens_messages = record {
+      window = λ messages kept work at now. keeps_messages.window messages kept work at now.keeps;
+      sender = λ messages work now. record {
+        keeps = keeps_messages.sender messages work now.keeps;
+        levels = now.levels;
+        are = subst (λ (es : List Effect). AreSaidAt plan others me.0 es now.levels) (sym ((heard_put messages work now.keeps.rising).1)) now.are;
+        gone = now.gone;
+        counted = now.counted;
+        short = now.short;
+        light = now.light;
+      };
+      message = λ m messages work said more now. by m messages work said more now (work.edge.peering peer.0) refl;
+    }
+      where
+        by : (m : Message) (messages : List Message) (work : Work) → IsSaidAcross (ends_at plan peer.0 me.0) m → AreSaid (ends_at plan peer.0 me.0) messages → Lightens (m ∷ messages) work → (near : Option Peering)
+            → work.edge.peering peer.0 ≡ near → Lightens messages (hears_message plan taken_all peer m work)
+        by m messages work said more now None at = clash (sym (ap is_up_with at) ∙ now.keeps.rising.1)
+        by m messages work said more now (Some kept) at =
+            let next : Work = mends plan taken_all (acts_on plan taken_all peer m work) in
+            let step : Step m work next = stepped m messages kept work at said now.short.0 now.keeps in
+            let same : hears_message plan taken_all peer m work ≡ next = heard_is m messages kept work at said now.keeps.rising in
+            record {
+              keeps = keeps_messages.message m messages work said more now.keeps;
+              levels = now.levels ++ step.put;
+              are = subst (λ (w : Work). AreSaidAt plan others me.0 w.effects (now.levels ++ step.put)) (sym same)
+                  (subst (λ (es : List Effect). AreSaidAt plan others me.0 es (now.levels ++ step.put)) (sym step.joined) (levels_joined plan others me.0 work.effects step.more now.levels step.put now.are step.are_put));
+              gone = suc now.gone;
+              counted = one_less now.gone (length messages) (length all) now.counted;
+              short = now.short.1;
+              light = subst (λ (n : ℕ). n + (weigh messages + suc now.gone) ≤ weigh all) (sym (total_joined few now.levels step.put))
+                  (goes_lighter (total few (map left_above now.levels)) (total few (map left_above step.put)) (weigh_one few (level_of plan others peer.0 me.0 m)) (weigh messages) now.gone (weigh all) now.light step.lighter_than);
+            }
+
+    -- once all is heard, and what is left of the octets is held
+    held_light : (rest : List ℕ) (left : List Message) (work : Work) (now : Lightens left work) → (near : Option Peering) → work.edge.peering peer.0 ≡ near
+        → AreSaidAt plan others me.0 (mends plan taken_all (holds peer rest near work)).effects now.levels
+    held_light rest left work now None at = clash (sym (ap is_up_with at) ∙ now.keeps.rising.1)
+    held_light rest left work now (Some kept) at =
+        let held_work : Work = changes (with_peering peer (Some (record kept { held = rest }))) work in
+        let mended : IsMendedAt plan me.0 held_work.edge = put_mended plan me work.edge held_work.edge (waits_put peer kept (record kept { held = rest }) work at refl) now.keeps.mended in
+        let puts : PutsMore plan me (λ place saying. false) held_work.effects (mends plan taken_all held_work).effects = mended_puts_none plan me (λ place saying. false) held_work mended in
+        subst (AreSaidAt plan others me.0 (mends plan taken_all held_work).effects) (end_same now.levels)
+        (subst (λ (es : List Effect). AreSaidAt plan others me.0 es (now.levels ++ [])) (sym puts.joined)
+        (levels_joined plan others me.0 held_work.effects puts.more now.levels []
+        (subst (λ (es : List Effect). AreSaidAt plan others me.0 es now.levels) (sym (changed_effects (with_peering peer (Some (record kept { held = rest }))) work)) now.are)
+        (no_levels plan me others puts.more puts.well)))
 
 -- ---- in a run
 
@@ -525,3 +667,65 @@ module _ (plan : Plan) (events : List Event) (run : IsRun plan events) (from to 
 
 pub runs_rise : RunsRise
 runs_rise plan events run from to count both up = by_end plan events run from to count both up (((network_after plan events).edges to.0).peering from.0) refl
+
+-- ---- and grows lighter
+
+module _ (plan : Plan) (events : List Event) (run : IsRun plan events) (from to : EdgeId) (count few : ℕ) (both : BothStand (network_after plan events) to.0 from.0)
+    (up : is_up_with (((network_after plan events).edges to.0).peering from.0) ≡ true) (kept : Peering) (at : ((network_after plan events).edges to.0).peering from.0 ≡ Some kept)
+    (enough : (messages : List Message) → AreOnWay plan (network_after plan events) from.0 to.0 messages → AllMessages (λ message. put_most plan to message ≤ few) messages) where
+  abbrev there : List Message
+  there = (pair plan events run from to count both up kept at).answers
+
+  all_enough : AllMessages (λ message. put_most plan to message ≤ few) there
+  all_enough = enough there (on_way plan events run from to count both up kept at)
+
+  abbrev Light : List Message → Work → Type 0
+  Light = Lightens plan run.checked run.types (later plan events run from to count both up kept at) to from (back_apart plan events run from to count both up kept at) (apart plan events run from to count both up kept at)
+      (network_after plan events).edges ((network_after plan events).edges to.0) (held_at (network_after plan events) to.0) ((ruled plan events run from to count).edges from.0).place
+      (faces plan events run from to count both up kept at) there few all_enough
+
+  none_yet : (n : ℕ) → 0 + (n + 0) ≤ n
+  none_yet n = omega arith
+
+  light_start : Light there (begin_at (network_after plan events) to)
+  light_start = record {
+    keeps = start plan events run from to count both up kept at;
+    levels = [];
+    are = tt;
+    gone = 0;
+    counted = zero-add (length there);
+    short = all_enough;
+    light = none_yet (weight plan (network_after plan events).edges from.0 to.0 few there);
+  }
+
+  light_heard : HasHeard from (ends_at plan from.0 to.0) Light (drop count ((network_after plan events).pipes from.0 to.0)) (hears plan taken_all from (octets plan events run from to count both up kept at) (begin_at (network_after plan events) to))
+  light_heard = few_heard plan from (ends_at plan from.0 to.0) (fit plan events run from to count both up kept at) Light
+      (lightens_messages plan run.checked run.types (later plan events run from to count both up kept at) to from (back_apart plan events run from to count both up kept at) (apart plan events run from to count both up kept at)
+      (network_after plan events).edges ((network_after plan events).edges to.0) (held_at (network_after plan events) to.0) ((ruled plan events run from to count).edges from.0).place
+      (faces plan events run from to count both up kept at) there few all_enough)
+      (suc (length (octets plan events run from to count both up kept at))) (octets plan events run from to count both up kept at) (drop count ((network_after plan events).pipes from.0 to.0)) there
+      (begin_at (network_after plan events) to) (pair plan events run from to count both up kept at).talk.answered (whole plan events run from to count both up kept at) light_start
+
+  lightens_on : LightensOn plan (network_after plan events) from to count few
+  lightens_on = record {
+    heard = there;
+    on_way = on_way plan events run from to count both up kept at;
+    rest = light_heard.rest;
+    left = light_heard.later;
+    behind = light_heard.behind;
+    levels = light_heard.keeps.levels;
+    are = subst (λ (w : Work). AreSaidAt plan (network_after plan events).edges to.0 w.effects light_heard.keeps.levels) (sym (work_is plan events run from to count both up kept at))
+        (subst (λ (w : Work). AreSaidAt plan (network_after plan events).edges to.0 (mends plan taken_all w).effects light_heard.keeps.levels) (sym light_heard.is)
+        (held_light plan run.checked run.types (later plan events run from to count both up kept at) to from (back_apart plan events run from to count both up kept at) (apart plan events run from to count both up kept at)
+        (network_after plan events).edges ((network_after plan events).edges to.0) (held_at (network_after plan events) to.0) ((ruled plan events run from to count).edges from.0).place
+        (faces plan events run from to count both up kept at) there few all_enough light_heard.rest light_heard.later light_heard.last light_heard.keeps (light_heard.last.edge.peering from.0) refl));
+    gone = light_heard.keeps.gone;
+    counted = light_heard.keeps.counted;
+    light = light_heard.keeps.light;
+  }
+
+pub runs_lighten : RunsLighten
+runs_lighten plan events run from to count few both up enough = by (((network_after plan events).edges to.0).peering from.0) refl where
+  by : (near : Option Peering) → ((network_after plan events).edges to.0).peering from.0 ≡ near → LightensOn plan (network_after plan events) from to count few
+  by None at = clash (sym (ap is_up_with at) ∙ up)
+  by (Some kept) at = lightens_on plan events run from to count few both up kept at enough

@@ -1,5 +1,5 @@
 //! What an edge puts on hearing a message, and what it weighs.
-ghost use Rattle.rest_laws.specs.Delivered.{RunsRise};
+ghost use Rattle.rest_laws.specs.Delivered.{RunsLighten, RunsRise};
 ghost use Rattle.rest_laws.specs.Rises.{HearingLightens, HearingRises};
 ghost use Rattle.rest_laws.specs.Weight.{FewWeighLess};
 
@@ -28,4 +28,11 @@ pub fn hearing_lightens()
 #[tactic(auto, using(crate::proofs::DeliverLemmas::runs_rise))]
 pub fn runs_rise()
     ensures { RunsRise }
+{}
+
+/// And there it grows lighter: what the edge puts meanwhile, what is left to be heard, and one for each message that it has heard, weigh
+/// no more together than what was on its way to it before.
+#[tactic(auto, using(crate::proofs::DeliverLemmas::runs_lighten))]
+pub fn runs_lighten()
+    ensures { RunsLighten }
 {}

@@ -4,4 +4,4 @@
 
 mod laws;
 
-pub use laws::{few_weigh_less, hearing_lightens, hearing_rises, runs_rise};
+pub use laws::{few_weigh_less, hearing_lightens, hearing_rises, runs_lighten, runs_rise};
