@@ -3,7 +3,6 @@
 from __future__ import annotations
 
 import atexit
-import functools
 import os
 import pathlib
 import subprocess
@@ -37,10 +36,15 @@ class Program(NamedTuple):
     is_proved: bool
 
 
-@functools.cache
+# What was found first: a call of a tool keeps to one program, and says of it what there is to say once.
+FOUND: list[Program] = []
+
+
 def found(*, build: bool) -> Program | None:
     """The program that there is; where there is none an unproved one is built, or None is the answer. It tells on standard error where
     what it makes is not proved."""
+    if FOUND:
+        return FOUND[0]
     words = ["--for", str(os.getpid())] if build else ["--built"]
     done = subprocess.run([WHICH, *words], stdin=subprocess.DEVNULL, stdout=subprocess.PIPE, check=False, text=True)
     if done.returncode == 1 and not build:
@@ -48,10 +52,10 @@ def found(*, build: bool) -> Program | None:
     if done.returncode != 0:
         raise Fault("there is no program")
     kind, _, path = done.stdout.rstrip("\n").partition(" ")
-    program = Program(path, kind == "proved")
-    if not program.is_proved and SWITCH not in os.environ:
+    FOUND.append(Program(path, kind == "proved"))
+    if kind != "proved" and not os.environ.get(SWITCH):
         say("what this shows is not proved yet; bin/prove proves it")
-    return program
+    return FOUND[0]
 
 
 def path() -> str:
