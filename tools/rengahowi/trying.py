@@ -74,7 +74,7 @@ def boxes_in(picture: Any) -> tuple[Any, ...]:
 def rows_in(page: Any) -> Any:
     """The rows of a ladder; the page has to be XML."""
     scripts = xml.etree.ElementTree.fromstring(page).iter(f"{HTML}script")
-    return json.loads(next(script.text for script in scripts if script.get("id") == "data"))["rows"]
+    return json.loads(next(script.text or "" for script in scripts if script.get("id") == "data"))["rows"]
 
 
 def capture_seen(call: Any, folder: str | pathlib.Path) -> tuple[Any, ...]:

@@ -48,7 +48,7 @@ def scenario(rows: dict[str, list[dict[str, Any]]], events: list[str], comment: 
 
 def connected(rows: dict[str, list[dict[str, Any]]]) -> list[Any]:
     """The events that connect each two neighbours, and deliver until nothing of LDP is left."""
-    pairs = {}
+    pairs: dict[frozenset[str], tuple[str, str]] = {}
     for wire in rows["wire"]:
         for pair in zip(wire["path"], wire["path"][1:]):
             pairs.setdefault(frozenset(pair), pair)
