@@ -5,6 +5,9 @@ from __future__ import annotations
 from .checking import Finding
 from .sound import text_of, why_not_sound
 
+# A session takes so many deliveries at least until a wire over it is up at both ends.
+DELIVERIES = 4
+
 TYPE_CHECKING = False
 if TYPE_CHECKING:
     from collections.abc import Iterator
@@ -23,6 +26,8 @@ def warnings(plan: Plan, connected: Network) -> Iterator[Any]:
         yield from unsound(plan, connected, service)
     yield from never_connected(plan)
     yield from expiring(plan)
+    yield from ending_early(plan)
+    yield from from_groups(plan)
 
 
 def unsound(plan: Plan, connected: Network, service: str) -> Iterator[Any]:
@@ -77,3 +82,34 @@ def expiring(plan: Plan) -> Iterator[Any]:
                     f" tick less at a time, with a 'settle' in between, or give both a larger keepalive"
                 )
                 yield Finding("", ("events", number), 0, text)
+
+
+def ending_early(plan: Plan) -> Iterator[Any]:
+    """A `settle N` that ends before the sessions can have come up that were connected before it: each takes four deliveries at least,
+    two Initializations, the KeepAlives, and the mappings of the end that is up last."""
+    pairs = {frozenset(pair) for pair in plan.pairs()}
+    wanted = 0
+    last: tuple[int, int, int] | None = None
+    for number, text in enumerate([*plan.events, "end"]):
+        kind, *words = text.split(" ")
+        if kind == "connect":
+            wanted += DELIVERIES if frozenset(words) in pairs else 0
+        elif kind in ("settle", "deliver"):
+            count = int(words[0]) if kind == "settle" else 1
+            last = (number, count, wanted) if kind == "settle" and count < wanted else last
+            wanted = max(0, wanted - count)
+        elif kind != "tick":
+            if wanted and last is not None:
+                place, count, before = last
+                text = f"{count} deliveries, and the sessions that were connected by then take {before} at least to come up with their wires: settle more"
+                yield Finding("", ("events", place), 0, text)
+            wanted, last = 0, None
+
+
+def from_groups(plan: Plan) -> Iterator[Any]:
+    """Frames whose source is a group, which no bridge learns."""
+    for number, text in enumerate(plan.events):
+        kind, *words = text.split(" ")
+        if kind == "frame" and len(words[1]) >= 24 and int(words[1][12:14], 16) % 2:
+            said = f"its source {words[1][12:24].lower()} is a group address (the first octet is odd), so no bridge learns where its station is"
+            yield Finding("", ("events", number), 0, said)

@@ -11,8 +11,7 @@ from .wanted import read_wanted, rows_of
 TYPE_CHECKING = False
 if TYPE_CHECKING:
     import pathlib
-    from collections.abc import Iterator
-    from typing import Any
+    from collections.abc import Iterable, Iterator
 
     from .network import Network
     from .plan import Plan
@@ -23,7 +22,7 @@ SWITCHES = ("lose", "connect", "restart", "wire", "circuit", "status", "priority
 
 def own_cases(path: str | pathlib.Path, plan: Plan, network: Network) -> list[Case]:
     """The cases of a file."""
-    found = []
+    found: list[Case] = []
     for number, row in enumerate(rows_of(path, read_wanted(path), "case", {"name": str, "failure": list, "mending": list}), 1):
         where = f"{path}: case {number}"
         if not row.get("name") or not row.get("failure"):
@@ -49,7 +48,8 @@ def check_word(plan: Plan, where: str, text: str, more: str) -> None:
         return
     if first not in SWITCHES:
         raise Fault(f"{where}: {text!r} begins with none of {', '.join([*SWITCHES, *([more] if more else [])])}")
-    rows: dict[str, Any] = {table: [{"name": name} for name in names] for table, names in (("edge", plan.edges), ("circuit", plan.circuits), ("wire", plan.wires))}
+    tables: dict[str, Iterable[str]] = {"edge": plan.edges, "circuit": plan.circuits, "wire": plan.wires}
+    rows = {table: [{"name": name} for name in names] for table, names in tables.items()}
     bad = EventWords(rows).bad_word(text.split(" "))
     if bad is not None:
         raise Fault(f"{where}: {text!r}, word {bad[0]}: {bad[1]}")
