@@ -53,7 +53,7 @@ def ends_apart(plan: Plan, number: int, wire: Any) -> Iterator[Any]:
 
 def equal_priorities(plan: Plan) -> Iterator[Any]:
     """Spokes of one edge of which neither is preferred."""
-    seen = {}
+    seen: dict[Any, str] = {}
     for number, wire in enumerate(plan.wires.values()):
         if wire.kind == "spoke":
             first = seen.setdefault((wire.service, wire.path[0], wire.priority), wire.name)

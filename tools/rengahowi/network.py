@@ -307,8 +307,8 @@ class Network:
 
     def joined(self, service: str) -> set[Any]:
         """The pairs of edges of a service between which a flooded frame finds its way by the wires that carried frames when they were
-        looked at last, be the service quiet or not: it does not go back on the wire by which it came, and from no mesh wire to another one. Each pair is a set of
-        two edges."""
+        looked at last, be the service quiet or not: it does not go back on the wire by which it came, and from no mesh wire to another
+        one. Each pair is a set of two edges."""
         ways: Ways = {}
         for wire in self.shape.of[service].wires:
             if wire.name in self.carrying:
