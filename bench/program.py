@@ -17,6 +17,7 @@ TOP = pathlib.Path(__file__).resolve().parent.parent
 sys.path.insert(0, str(TOP / "tools"))
 from rengahowi import writing  # noqa: E402
 from rengahowi.program import measured, require_proved as require_proved  # noqa: E402
+from rengahowi.stamp import is_there  # noqa: E402
 
 # The program itself. `bin/vplsnet` looks for newer sources before each run, which would be measured too.
 PROGRAM = measured()
@@ -29,7 +30,10 @@ def program_of(name: str) -> str:
 
 
 def build_beside(name: str, words: Sequence[str]) -> None:
-    """Has `rt` prove and build the program of a crate, by a run with these words; where it has done so, it only runs it."""
+    """Has `rt` prove and build the program of a crate, by a run with these words, where `rt ci` has not left it; where it is built, that only
+    runs it."""
+    if is_there(name):
+        return
     made = subprocess.run(["rt", "run", "--", *words], cwd=TOP / "crates" / name, stdin=subprocess.DEVNULL, stdout=subprocess.DEVNULL, check=False)
     if made.returncode != 0:
         sys.exit(f"{pathlib.Path(sys.argv[0]).name}: there is no program to measure")

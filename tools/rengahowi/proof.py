@@ -40,6 +40,11 @@ def layers() -> dict[str, list[str]]:
     return {name: [it for it in names if it in below] for name, names in below.items()}
 
 
+def programs() -> list[str]:
+    """The crates that are programs."""
+    return [name for name in layers() if (CRATES / name / "src" / "main.rt").exists()]
+
+
 def all_below(below: dict[str, list[str]], name: str) -> list[str]:
     """A crate, and all that it stands on, each once."""
     found = [name]

@@ -11,8 +11,16 @@ from .command import Fault
 
 TOP = pathlib.Path(__file__).resolve().parent.parent.parent
 WHICH = TOP / "bin" / "which-program"
-PROGRAM = TOP / "crates" / "vplsnet_program" / "out" / "vplsnet_program"
-STAMP = PROGRAM.with_suffix(".proved")
+
+
+def program_of(name: str) -> pathlib.Path:
+    """The path of the program of a crate."""
+    return TOP / "crates" / name / "out" / name
+
+
+def stamp_of(name: str) -> pathlib.Path:
+    """The path of its stamp."""
+    return program_of(name).with_suffix(".proved")
 
 
 def said_by(*words: str | pathlib.Path) -> str:
@@ -25,30 +33,31 @@ def said_by(*words: str | pathlib.Path) -> str:
         raise Fault(f"{' '.join(map(str, words))} ended with status {ended.returncode}") from None
 
 
-def sources() -> str:
-    """The hash of the sources as they stand."""
-    return said_by(WHICH, "--sources")
+def sources(name: str) -> str:
+    """The hash of the sources of a crate's program as they stand."""
+    return said_by(WHICH, "--sources", "--of", name)
 
 
-def is_there() -> bool:
+def is_there(name: str) -> bool:
     """Whether the proved program of these sources is there."""
-    return subprocess.run([WHICH, "--proved"], stdin=subprocess.DEVNULL, stdout=subprocess.DEVNULL, check=False).returncode == 0
+    quiet = subprocess.DEVNULL
+    return subprocess.run([WHICH, "--proved", "--of", name], stdin=quiet, stdout=quiet, check=False).returncode == 0
 
 
-def remove() -> None:
+def remove(name: str) -> None:
     """Takes the stamp and the program away: what stands there behind a proof was made by it."""
-    for path in (STAMP, PROGRAM):
+    for path in (stamp_of(name), program_of(name)):
         path.unlink(missing_ok=True)
 
 
-def write(before: str) -> None:
-    """Leaves the stamp of the program that was proved just now, of the sources with this hash."""
-    if sources() != before:
+def write(name: str, before: str) -> None:
+    """Leaves the stamp of a program that was proved just now, of the sources with this hash."""
+    if sources(name) != before:
         raise Fault("a source was changed meanwhile, so this is no proof of the sources as they stand: call bin/prove again")
-    program = hashlib.sha256(PROGRAM.read_bytes()).hexdigest()
-    new = STAMP.with_suffix(f".{os.getpid()}")
+    program, stamp = hashlib.sha256(program_of(name).read_bytes()).hexdigest(), stamp_of(name)
+    new = stamp.with_suffix(f".{os.getpid()}")
     try:
         new.write_text(f"program {program}\nsources {before}\nkit {said_by('rt', 'version')}\n", encoding="utf-8")
-        os.replace(new, STAMP)
+        os.replace(new, stamp)
     finally:
         new.unlink(missing_ok=True)
