@@ -40,6 +40,7 @@ def from_configs(folder: pathlib.Path, _gone: set[str]) -> Iterator[bool]:
         status, said, fault = tool("from-config", *WORDS.get(name, []), *files, folder=place)
         yield compare(f"from-config {name}", (status, said), (0, (place / PLAN).read_text(encoding="utf-8")))
         yield compare(f"from-config {name}, told", fault, (place / TOLD).read_text(encoding="utf-8"))
+    yield from as_json()
     path = folder / "one.conf"
     for text, line, words in REFUSED:
         path.write_text(text, encoding="utf-8")
@@ -47,6 +48,18 @@ def from_configs(folder: pathlib.Path, _gone: set[str]) -> Iterator[bool]:
         last = fault.splitlines()[-1]
         seen = (status, said, last.startswith(f"from-config: {path}, line {line}: "), words in last)
         yield compare(f"from-config {text!r}", seen, (1, "", True, True))
+
+
+def as_json() -> Iterator[bool]:
+    """What programs are told: the same scenario, the files, and the kinds and both lines of what is told."""
+    place = CONFIGS / "vrp" / "unequal-ends"
+    found = json.loads(tool("from-config", "--json", "pe1.cfg", "pe2.cfg", folder=place)[1])
+    yield compare("from-config --json", found["scenario"], (place / PLAN).read_text(encoding="utf-8"))
+    files = [{"file": f"pe{number}.cfg", "vendor": "vrp", "lines": 44, "edge": f"pe{number}", "address": f"10.0.0.{number}"} for number in (1, 2)]
+    yield compare("from-config --json, files", (found["files"], found["guessed"]), (files, {}))
+    lines = [tuple(told[key] for key in ("file", "line", "kind", "other_file", "other_line")) for told in found["told"]]
+    right = [("pe1.cfg", here, "differs", "pe2.cfg", there) for here, there in ((15, 15), (21, 22), (29, 29), (33, 33))]
+    yield compare("from-config --json, told", lines, right)
 
 
 def there_and_back(vendor: str, seed: int, count: int, like: str | None = None) -> tuple[int, list[str]]:

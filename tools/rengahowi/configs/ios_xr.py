@@ -46,8 +46,9 @@ def bridge_group(reader: Reader, _router: Router, _block: Block, name: str) -> N
 
 def bridge_domain(reader: Reader, router: Router, block: Block, name: str) -> Instance:
     """A service. Of two domains with one name the later one has that of its group, too."""
-    taken = {instance.name for instance in router.instances}
-    return instance_of(reader, block, f"{reader.bridge_group}_{name}" if name in taken else name)  # type: ignore[attr-defined]
+    group: str = reader.bridge_group  # type: ignore[attr-defined]
+    taken = any(instance.name == name for instance in router.instances)
+    return instance_of(reader, block, f"{group}_{name}" if taken else name, group, name)
 
 
 def point(reader: Reader, _router: Router, block: Block, _name: str) -> Instance:

@@ -72,6 +72,7 @@ class Reader:
         self.router.age = self.meanings["age"].value
         self.interfaces: dict[str, Interface] = {}
         self.identifier: Said | None = None
+        self.sections: dict[tuple[str | None, ...], Instance] = {}
         self.waiting: list[tuple[Instance, str, int]] = []
         walk(self, self.grammar, self.router, self.blocks(text), self.paths)
         self.finish()
@@ -283,10 +284,13 @@ def pseudowire_to(reader: Reader, block: Block, address: str, pw_id: str | None,
     return wire
 
 
-def instance_of(reader: Reader, block: Block, name: str | None) -> Instance:
-    """A new service of the router."""
-    made = Instance(name, block.line)
-    reader.router.instances.append(made)
+def instance_of(reader: Reader, block: Block, name: str | None, *key: str) -> Instance:
+    """A service of the router: a new one, or that of a section with this key, or else this name, that stood before."""
+    place = key or (name,)
+    made = reader.sections.get(place) if name is not None or key else None
+    if made is None:
+        made = reader.sections[place] = Instance(name, block.line)
+        reader.router.instances.append(made)
     return made
 
 

@@ -83,7 +83,7 @@ def unused(why: str) -> Callable[..., None]:
 
 def vpls(reader: Reader, _router: Router, block: Block, number: str, name: str | None = None, _customer: str | None = None) -> Instance:
     """A service."""
-    made = instance_of(reader, block, plain(name) if name is not None else f"vpls_{number}")
+    made = instance_of(reader, block, plain(name) if name is not None else f"vpls_{number}", number)
     made.pw_id = pw_id_of(reader, block, number)
     return made
 
