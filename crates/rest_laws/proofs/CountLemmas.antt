@@ -1,6 +1,6 @@
 -- How many messages an edge puts on hearing one: three at each of its ends at most when it mends, and those that answer.
-use Rattle.std.proofs.Common.{◌≡◌, ◌≤◌, ◌+◌, ◌*◌, ◌++◌, ℕ, suc, Bool, true, false, cond, nat_eq, length, List, [], ◌∷◌, Option, Some, None, refl, sym, ap, subst, arith, length-append, zero, ◌∙◌, zero-add}
-use Rattle.std.proofs.Math.Nat.{suc-mul}
+use Rattle.std.proofs.Common.{◌≡◌, ◌≤◌, ◌+◌, ◌*◌, ◌++◌, ℕ, suc, Bool, true, false, cond, nat_eq, length, List, [], ◌∷◌, Option, Some, None, refl, sym, ap, subst, arith, length-append, zero, ◌∙◌, zero-add, ◌/◌, drop}
+use Rattle.std.proofs.Math.Nat.{mul-one, suc-mul}
 use Rattle.net_base.specs.declared.plan.Plan.{Plan}
 use Rattle.net_base.specs.declared.plan.places.EdgeId.{EdgeId}
 use Rattle.net_base.specs.declared.plan.places.WireId.{WireId}
@@ -31,7 +31,7 @@ use Rattle.net_base.specs.declared.plan.circuit_plan.CircuitPlan.{CircuitPlan}
 use Rattle.net_base.specs.declared.plan.places.ServiceId.{ServiceId}
 use Rattle.net_base.specs.declared.plan.wire_plan.WirePlan.{WirePlan}
 use Rattle.net_base.specs.plan.Roles.{is_circuit_at, wire_ends_at}
-use Rattle.ldp_grammar.specs.declared.message.Message.TheVariants.{Notification, AddressWithdraw, LabelMapping, LabelWithdraw, LabelRelease}
+use Rattle.ldp_grammar.specs.declared.message.Message.TheVariants.{Initialization, KeepAlive, Notification, AddressWithdraw, LabelMapping, LabelWithdraw, LabelRelease}
 use Rattle.pw_messages.specs.Content.{binding_in, pw_status_code, release}
 use Rattle.pw_signalling.specs.declared.binding.Binding.{Binding}
 use Rattle.pw_signalling.specs.Rows.{bound, group_stated, group_unbound, stated, unbound}
@@ -41,7 +41,10 @@ use Rattle.hvpls_spokes.specs.declared.port.Port.TheVariants as port
 use Rattle.hvpls_spokes.specs.Port.{circuit_ports, ports_of, wire_port, wire_ports}
 use Rattle.hvpls_spokes.specs.Role as roles
 use Rattle.mac_withdraw.specs.Passing.{is_passed_to}
-use Rattle.mac_withdraw.specs.Pieces.{pieces_of}
+use Rattle.mac_withdraw.specs.Pieces.{most_in_piece, piece_count, pieces_from, pieces_of}
+use Rattle.session_core.specs.declared.peers.Peers.{Peers}
+use Rattle.flight_laws.specs.Messages.{AreSaid, IsSaidAcross}
+use Rattle.flight_laws.specs.Rules.{AllMessages}
 use Rattle.edge_model.specs.Across.{end_beyond}
 use Rattle.edge_model.specs.Clear.{clears_at, clears_by, clears_wire, passes_on, tells_at, tells_by, withdrawing_at}
 use Rattle.edge_model.specs.Ends.{wire_end}
@@ -50,7 +53,7 @@ use Rattle.edge_model.specs.Hear.{acts_on}
 use Rattle.edge_model.specs.Signal.{end_of_fec, maps_to, releases_label, takes_content, with_end_changed, with_named, with_released}
 use Rattle.edge_model.proofs.SignalLemmas.{acts_on_signals}
 use Rattle.rest_laws.specs.Levels.{Saying, saying_of}
-use Rattle.rest_laws.specs.Rises.{answers_most, put_most, said_count, says_any}
+use Rattle.rest_laws.specs.Rises.{answers_most, most_put, put_most, said_count, says_any}
 use Rattle.rest_laws.proofs.PutLemmas.{changed_effects, put_effects}
 
 -- ---- one message
@@ -363,3 +366,53 @@ module _ (plan : Plan) (peer : EdgeId) where
       joined_few (said_count work.effects) (said_count acted.effects) (said_count (mends plan taken_all acted).effects) (answers_most plan message) (3 * length (end_places plan work.edge.me))
       (answers_few message saying work says)
       (subst (λ (k : EdgeId). said_count (mends plan taken_all acted).effects ≤ said_count acted.effects + 3 * length (end_places plan k)) (acts_on_signals plan taken_all peer message work there).edge.me (mends_few_said plan acted))
+
+-- ---- on a message that is said in a run
+
+one_piece : (n : ℕ) → n ≤ 30 → piece_count n ≤ 1
+one_piece n few = by (nat_eq n 0) where
+  by : (b : Bool) → cond b 1 ((n + 29) / 30) ≤ 1
+  by true = omega arith
+  by false = omega (arith, few)
+
+pieces_length : (n : ℕ) (macs : List Mac) → length (pieces_from n macs) ≡ n
+pieces_length zero macs = refl
+pieces_length (suc n) macs = ap suc (pieces_length n (drop most_in_piece macs))
+
+one_each : (c k : ℕ) → k ≤ 1 → suc c * k ≤ suc c
+one_each c zero few = omega arith
+one_each c (suc k) few = omega (arith, few, times_one c (suc k) (omega (arith, few))) where
+  times_one : (c k : ℕ) → k ≡ 1 → suc c * k ≡ suc c
+  times_one c k is = ap (λ (n : ℕ). suc c * n) is ∙ mul-one (suc c)
+
+in_most : (a c k : ℕ) → a ≤ suc c → a + k ≤ suc c + k
+in_most a c k le = omega (arith, le)
+
+pub said_few : (plan : Plan) (me : EdgeId) (ends : Peers) (m : Message) → IsSaidAcross ends m → put_most plan me m ≤ most_put plan me
+said_few plan me ends m said = in_most (answers_most plan m) (length plan.circuits + length plan.wires) (3 * length (end_places plan me)) (of m said) where
+  rows : ℕ
+  rows = length plan.circuits + length plan.wires
+
+  none : (c : ℕ) → 0 ≤ suc c
+  none c = omega arith
+
+  one : (c : ℕ) → 1 ≤ suc c
+  one c = omega arith
+
+  of : (x : Message) → IsSaidAcross ends x → answers_most plan x ≤ suc (length plan.circuits + length plan.wires)
+  of (Initialization id params) is = none rows
+  of (KeepAlive id) is = none rows
+  of (Notification id code status fec) is = none rows
+  of (AddressWithdraw id None (Some fec) (Some macs)) is =
+      one_each rows (length (pieces_of macs)) (subst (λ (n : ℕ). n ≤ 1) (sym (pieces_length (piece_count (length macs)) macs)) (one_piece (length macs) is.1.1))
+  of (AddressWithdraw id addresses fec macs) is = absurd is.1
+  of (LabelMapping id fec label status points) is = one rows
+  of (LabelWithdraw id fec label) is = one rows
+  of (LabelRelease id fec label) is = none rows
+  of x is = absurd is
+
+pub all_few_said : (plan : Plan) (me : EdgeId) (ends : Peers) (few : ℕ) → most_put plan me ≤ few → (ms : List Message) → AreSaid ends ms → AllMessages (λ m. put_most plan me m ≤ few) ms
+all_few_said plan me ends few enough [] said = tt
+all_few_said plan me ends few enough (m ∷ ms) said = (both (put_most plan me m) (most_put plan me) few (said_few plan me ends m said.0) enough, all_few_said plan me ends few enough ms said.1) where
+  both : (a b c : ℕ) → a ≤ b → b ≤ c → a ≤ c
+  both a b c one other = omega (arith, one, other)

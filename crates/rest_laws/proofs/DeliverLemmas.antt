@@ -75,7 +75,8 @@ use Rattle.flight_laws.proofs.ToldLemmas.{TellsFirm, TellsOwn}
 use Rattle.flight_laws.proofs.WorksLemmas.{changed_edge, gives_spares}
 use Rattle.rest_laws.specs.Delivered.{IsOneOf, LightensOn, RisesOn, RunsLighten, RunsRise, SaysAboveOne, weigh_one, weight}
 use Rattle.rest_laws.specs.Levels.{Saying, Binds, Withdraws, Releases, States, Clears, level, level_at, level_by, level_of, pw_id_of, saying_of}
-use Rattle.rest_laws.specs.Rises.{AreSaidAt, HasMended, HoldsByPlan, IsByPlan, PutsAbove, left_above, put_most}
+use Rattle.rest_laws.specs.Rises.{AreSaidAt, HasMended, HoldsByPlan, IsByPlan, PutsAbove, left_above, most_put, put_most}
+use Rattle.rest_laws.proofs.CountLemmas.{all_few_said}
 use Rattle.rest_laws.specs.Weight.{heavy, total}
 use Rattle.rest_laws.proofs.WeightLemmas.{heavy_some}
 use Rattle.rest_laws.proofs.ClearLemmas.{put_mended}
@@ -672,12 +673,12 @@ runs_rise plan events run from to count both up = by_end plan events run from to
 
 module _ (plan : Plan) (events : List Event) (run : IsRun plan events) (from to : EdgeId) (count few : ℕ) (both : BothStand (network_after plan events) to.0 from.0)
     (up : is_up_with (((network_after plan events).edges to.0).peering from.0) ≡ true) (kept : Peering) (at : ((network_after plan events).edges to.0).peering from.0 ≡ Some kept)
-    (enough : (messages : List Message) → AreOnWay plan (network_after plan events) from.0 to.0 messages → AllMessages (λ message. put_most plan to message ≤ few) messages) where
+    (enough : most_put plan to ≤ few) where
   abbrev there : List Message
   there = (pair plan events run from to count both up kept at).answers
 
   all_enough : AllMessages (λ message. put_most plan to message ≤ few) there
-  all_enough = enough there (on_way plan events run from to count both up kept at)
+  all_enough = all_few_said plan to (ends_at plan from.0 to.0) few enough there (on_way plan events run from to count both up kept at).said
 
   abbrev Light : List Message → Work → Type 0
   Light = Lightens plan run.checked run.types (later plan events run from to count both up kept at) to from (back_apart plan events run from to count both up kept at) (apart plan events run from to count both up kept at)

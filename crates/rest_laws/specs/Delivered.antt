@@ -13,10 +13,9 @@ use Rattle.network_model.specs.Connection.{hearing_work}
 use Rattle.network_model.specs.State.{NetworkState}
 use Rattle.flight_laws.specs.Ends.{ends_at}
 use Rattle.flight_laws.specs.Messages.{octets_of_all}
-use Rattle.flight_laws.specs.Rules.{AllMessages}
 use Rattle.flight_laws.specs.Laws.{AreOnWay, BothStand, IsRun, network_after}
 use Rattle.rest_laws.specs.Levels.{level_of}
-use Rattle.rest_laws.specs.Rises.{AreSaidAt, IsSaidAt, left_above, put_most}
+use Rattle.rest_laws.specs.Rises.{AreSaidAt, IsSaidAt, left_above, most_put}
 use Rattle.rest_laws.specs.Weight.{heavy, total}
 
 -- the message is one of these
@@ -76,9 +75,7 @@ pub record LightensOn (plan : Plan) (network : NetworkState) (from to : EdgeId) 
   pub counted : gone + length left ≡ length heard
   pub light : total few (map left_above levels) + (weight plan network.edges from.0 to.0 few left + gone) ≤ weight plan network.edges from.0 to.0 few heard
 
--- in every run, by each number of which no message on its way makes the hearer put more
+-- in every run, by weights by which one message weighs more than so many of higher levels as the hearer puts on one at most
 abbrev pub RunsLighten : Type 0
 RunsLighten = (plan : Plan) (events : List Event) → IsRun plan events → (from to : EdgeId) (count few : ℕ) → BothStand (network_after plan events) to.0 from.0
-    → is_up_with (((network_after plan events).edges to.0).peering from.0) ≡ true
-    → ((messages : List Message) → AreOnWay plan (network_after plan events) from.0 to.0 messages → AllMessages (λ message. put_most plan to message ≤ few) messages)
-    → LightensOn plan (network_after plan events) from to count few
+    → is_up_with (((network_after plan events).edges to.0).peering from.0) ≡ true → most_put plan to ≤ few → LightensOn plan (network_after plan events) from to count few

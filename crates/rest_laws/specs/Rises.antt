@@ -84,6 +84,10 @@ answers_most plan message = 0
 abbrev pub put_most : Plan → EdgeId → Message → ℕ
 put_most plan me message = answers_most plan message + 3 * length (end_places plan me)
 
+-- no message that is said in a run makes it put more: the addresses of one are one piece (RFC 4762 section 6.2)
+abbrev pub most_put : Plan → EdgeId → ℕ
+most_put plan me = suc (length plan.circuits + length plan.wires) + 3 * length (end_places plan me)
+
 -- ---- what an edge hears
 
 -- what an edge holds of a peer tells what the plan has the peer tell
