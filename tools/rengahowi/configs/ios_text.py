@@ -66,7 +66,7 @@ class IosText(Text):
         """A service and its bridge domain. One that is a cross-connect stands in its interface."""
         if self.crosses(part):
             return self.cross(edge, part)
-        first = part.number * 100
+        first = part.number * 1000
         inside, outside = [*part.mesh, *part.starts], part.hubs
         description = self.one(part, "description")
         lines = [f"l2vpn vfi context {part.service}", *([f" description {description}"] if description else []), f" vpn id {part.number}"]

@@ -36,6 +36,7 @@ class Group:
         self.name, self.instance, self.line = name, instance, line
         self.switched = False
         self.pw_id: Said | None = None
+        self.offer: dict[str, Said] = {}
         self.wires: dict[str, JunosWire] = {}
 
 
@@ -284,6 +285,7 @@ class Junos(Reader):
                 self.tell(group.line, f"mesh-group {group.name} is no local-switching: its neighbours do not reach each other, and spokes of a scenario do", "differs")
             for wire in group.wires.values():
                 wire.kind = MESH if alone else SPOKE
+                wire.offer = {**group.offer, **wire.offer}
                 self.add_wire(made, wire, group.pw_id or made.pw_id)
 
     def add_wire(self, made: Instance, wire: JunosWire, pw_id: Said | None) -> None:

@@ -27,6 +27,8 @@ REASONS = {
     "encapsulation": "no pseudowire over MPLS",
 }
 SHOWN = 80
+# What stands behind such a word is not repeated.
+SECRET, HIDDEN = re.compile(r"(\S*(?:password|secret|authentication-key)\S*) .*"), r"\1 .."
 LEFT_OUT = ": the pseudowire is left out"
 LONGEST_DESCRIPTION = 80
 
@@ -106,7 +108,7 @@ class Reader:
     def left(self, block: Block, why: str = "subject") -> None:
         """Tells that a line is not used, with what stands in it, and why: one of the reasons, or in words of its own."""
         more = block.count()
-        what = f"{block.text[:SHOWN]!r}" + (f" and the {more} lines in it" if more > 1 else " and the line in it" if more else "")
+        what = f"{SECRET.sub(HIDDEN, block.text)[:SHOWN]!r}" + (f" and the {more} lines in it" if more > 1 else " and the line in it" if more else "")
         if why == "subject":
             self.tell(block.line, f"{what} {'have' if more else 'has'} no counterpart in a scenario")
         else:
@@ -149,7 +151,8 @@ class Reader:
         """Takes the address of the interface that is named as the router's, else of the first loopback, and then those of all others."""
         named = self.interfaces.get(self.identifier.value) if self.identifier is not None and self.router.address is None else None
         for address, line in named.addresses[:1] if named is not None else ():
-            self.router.addresses[address], self.router.address = line, address
+            if is_address(address):
+                self.router.addresses[address], self.router.address = line, address
         loopbacks = sorted((one for one in self.interfaces.values() if one.name.lower().startswith(begins)), key=lambda one: natural(one.name))
         for one in [*loopbacks, *self.interfaces.values()]:
             for address, line in one.addresses:

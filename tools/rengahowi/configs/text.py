@@ -2,6 +2,7 @@
 
 from __future__ import annotations
 
+import re
 from typing import NamedTuple
 
 TYPE_CHECKING = False
@@ -13,6 +14,8 @@ if TYPE_CHECKING:
 # What an end offers of which nothing is said, but for what each vendor's words mean then.
 SILENT: dict[str, Any] = {"vlan": None, "vccv": 0, "group": 0, "description": ""}
 USUAL_PRIORITY = 100
+# A description that every vendor's words can have.
+PLAIN = re.compile(r"[!#-~]+(?: [!#-~]+)*")
 
 
 class End(NamedTuple):
@@ -140,6 +143,9 @@ class Text:
         """Tells what is not said of ends, and has them offer what is said."""
         ends = part.ends()
         for end in ends:
+            if end.offer["description"] and "description" not in self.unsaid and not PLAIN.fullmatch(end.offer["description"]):
+                self.leave(f"wire {end.wire.name} at {edge}: its description is left out: it is no plain words with a blank between each two")
+                end.offer["description"] = ""
             for key in self.unsaid:
                 usual = SILENT[key] if key in SILENT else self.meanings[key].value
                 if end.offer[key] != usual:

@@ -36,6 +36,16 @@ def vendor_of(path: str, text: str) -> str:
     return best
 
 
+def text_of(path: str) -> str:
+    """The text of a configuration. Where it is no UTF-8 it is Latin 1, as descriptions of old devices are."""
+    with open(path, "rb") as file:
+        octets = file.read()
+    try:
+        return octets.decode("utf-8-sig")
+    except UnicodeDecodeError:
+        return octets.decode("latin-1")
+
+
 def read(path: str, text: str, vendor: str | None = None) -> Reader:
     """The configuration of a file. Whose it is is told by its text, where nobody says."""
     return READERS[vendor or vendor_of(path, text)](path, text)
