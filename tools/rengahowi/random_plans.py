@@ -94,7 +94,9 @@ def add_circuits(chance: random.Random, rows: dict[str, list[dict[str, Any]]], s
             rows["circuit"].append({**row, **({"tag": chance.randint(1, 4094)} if chance.random() < 0.6 else {})})
 
 
-def add_wire(chance: random.Random, vendor: str, rows: dict[str, list[dict[str, Any]]], shared: dict[str, Any], service: str, kind: str, path: list[int], pw_id: int) -> None:
+def add_wire(
+    chance: random.Random, vendor: str, rows: dict[str, list[dict[str, Any]]], shared: dict[str, Any], service: str, kind: str, path: list[int], pw_id: int
+) -> None:
     """A wire of a service, whose ends offer what the vendor can say."""
     row: dict[str, Any] = {"name": f"w{len(rows['wire'])}", "service": service, "class": kind, "path": [f"e{edge}" for edge in path], "pw_id": pw_id}
     both = {key: chance.choice(VALUES[key]) for key in EACH[vendor]}

@@ -53,11 +53,11 @@ def to_router(reader: Reader, within: Pseudowire, block: Block, text: str) -> No
     within.left_out = within.left_out or within.neighbour is None
 
 
-def to_address(reader: Reader, within: Pseudowire, block: Block, text: str) -> None:
+def to_address(reader: Frr, within: Pseudowire, block: Block, text: str) -> None:
     """The neighbour's transport address, which is kept until its identifier is known."""
     address = reader.address(block, text)
     if address is not None:
-        reader.transports[within] = Said(address, block.line)  # type: ignore[attr-defined]
+        reader.transports[within] = Said(address, block.line)
 
 
 def numbered(reader: Reader, within: Pseudowire, block: Block, text: str) -> None:

@@ -8,8 +8,6 @@ from .text import Text
 
 TYPE_CHECKING = False
 if TYPE_CHECKING:
-    from typing import Any
-
     from ..plan import Plan
 
 IMAGE = "quay.io/frrouting/frr:9.1.0"

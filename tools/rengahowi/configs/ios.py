@@ -7,7 +7,7 @@ from .grammar import Level
 from .parts import MESH, POINT, SPOKE, Circuit, Instance, Pseudowire, Router, Said
 from .reading import (
     Class, Interface, Meaning, Reader, described, hostname, identified, instance_of, kept_alive, of_class, offers, offers_mtu, offers_one, own_address,
-    plain, pops_tag, pseudowire_to, pw_class, pw_id_of, refused, says, shut_instance, shut_interface, shut_wire, tagged, told_of_circuit,
+    pops_tag, pseudowire_to, pw_class, pw_id_of, refused, says, shut_instance, shut_interface, shut_wire, tagged, told_of_circuit,
 )
 
 TYPE_CHECKING = False
@@ -82,28 +82,28 @@ def wired(kind: str) -> Callable[..., Pseudowire]:
 def member(kind: str) -> Callable[..., Pseudowire]:
     """A pseudowire whose lines stand in an interface of their own."""
 
-    def does(reader: Reader, within: Instance, block: Block, name: str) -> Pseudowire:
+    def does(reader: Ios, within: Instance, block: Block, name: str) -> Pseudowire:
         made = Pseudowire(name, block.line, kind)
         within.pseudowires.append(made)
-        reader.members.append((made, Said(name, block.line)))  # type: ignore[attr-defined]
+        reader.members.append((made, Said(name, block.line)))
         return made
 
     return does
 
 
-def cross_connect(reader: Reader, within: Interface, block: Block, address: str, pw_id: str, name: str | None = None) -> Pseudowire:
+def cross_connect(reader: Ios, within: Interface, block: Block, address: str, pw_id: str, name: str | None = None) -> Pseudowire:
     """A cross-connect of an interface: a service of one circuit."""
     made = instance_of(reader, block, None)
     made.point = True
     reader.waiting.append((made, within.name, block.line))
     wire = wired(POINT)(reader, made, block, address, pw_id, name)
-    reader.points[wire] = (made, within)  # type: ignore[attr-defined]
+    reader.points[wire] = (made, within)
     return wire
 
 
-def backed_up(reader: Reader, within: Pseudowire, block: Block, address: str, pw_id: str, name: str | None, priority: str | None) -> None:
+def backed_up(reader: Ios, within: Pseudowire, block: Block, address: str, pw_id: str, name: str | None, priority: str | None) -> None:
     """A backup of a cross-connect."""
-    made: Pseudowire = wired(POINT)(reader, reader.points[within][0], block, address, pw_id, name)  # type: ignore[attr-defined]
+    made: Pseudowire = wired(POINT)(reader, reader.points[within][0], block, address, pw_id, name)
     first, second = MEANINGS["priority"].value
     within.rank = within.rank or Said(first, within.line)
     rank = second if priority is None else reader.number(block, priority, 0, 255, "priority")
@@ -135,14 +135,14 @@ def joined(reader: Reader, within: Instance, block: Block, name: str, number: st
     reader.waiting.append((within, name if number is None else f"{name}.{number}", block.line))
 
 
-def in_bridge(reader: Reader, within: Instance, _block: Block, number: str) -> None:
+def in_bridge(reader: Ios, within: Instance, _block: Block, number: str) -> None:
     """The bridge domain of a service."""
-    reader.inner_bridges.append((number, within))  # type: ignore[attr-defined]
+    reader.inner_bridges.append((number, within))
 
 
-def bridge(reader: Reader, _router: Router, block: Block, number: str) -> Bridge:
+def bridge(reader: Ios, _router: Router, block: Block, number: str) -> Bridge:
     """A bridge domain."""
-    found: Bridge = reader.bridges.setdefault(number, Bridge(block.line))  # type: ignore[attr-defined]
+    found: Bridge = reader.bridges.setdefault(number, Bridge(block.line))
     return found
 
 

@@ -53,7 +53,8 @@ class IosText(Text):
         """Of a cross-connect, the first spoke has the priority 0, and there is one circuit."""
         if len(part.starts) > 1 and len(part.circuits) != 1:
             for end in sorted(part.starts, key=lambda end: end.wire.priority)[1:]:
-                self.leave(f"wire {end.wire.name} at {edge} is left out: spokes that are several are those of one circuit, and there are {len(part.circuits)}")
+                why = f"spokes that are several are those of one circuit, and there are {len(part.circuits)}"
+                self.leave(f"wire {end.wire.name} at {edge} is left out: {why}")
             part.starts = sorted(part.starts, key=lambda end: end.wire.priority)[:1]
         super().choose(edge, part)
 

@@ -39,14 +39,14 @@ def interface(layer2: bool) -> Callable[..., Interface]:
     return does
 
 
-def bridge_group(reader: Reader, _router: Router, _block: Block, name: str) -> None:
+def bridge_group(reader: IosXr, _router: Router, _block: Block, name: str) -> None:
     """The bridge group of the domains within it."""
-    reader.bridge_group = name  # type: ignore[attr-defined]
+    reader.bridge_group = name
 
 
-def bridge_domain(reader: Reader, router: Router, block: Block, name: str) -> Instance:
+def bridge_domain(reader: IosXr, router: Router, block: Block, name: str) -> Instance:
     """A service. Of two domains with one name the later one has that of its group, too."""
-    group: str = reader.bridge_group  # type: ignore[attr-defined]
+    group: str = reader.bridge_group
     taken = any(instance.name == name for instance in router.instances)
     return instance_of(reader, block, f"{group}_{name}" if taken else name, group, name)
 
@@ -61,18 +61,18 @@ def point(reader: Reader, _router: Router, block: Block, _name: str) -> Instance
 def wired(kind: str) -> Callable[..., Pseudowire]:
     """A pseudowire of a service."""
 
-    def does(reader: Reader, within: Instance, block: Block, address: str, pw_id: str) -> Pseudowire:
+    def does(reader: IosXr, within: Instance, block: Block, address: str, pw_id: str) -> Pseudowire:
         made = pseudowire_to(reader, block, address, pw_id, kind)
         within.pseudowires.append(made)
-        reader.instance_of[made] = within  # type: ignore[attr-defined]
+        reader.instance_of[made] = within
         return made
 
     return does
 
 
-def backed_up(reader: Reader, within: Pseudowire, block: Block, address: str, pw_id: str) -> Pseudowire:
+def backed_up(reader: IosXr, within: Pseudowire, block: Block, address: str, pw_id: str) -> Pseudowire:
     """The backup of a pseudowire."""
-    made: Pseudowire = wired(within.kind)(reader, reader.instance_of[within], block, address, pw_id)  # type: ignore[attr-defined]
+    made: Pseudowire = wired(within.kind)(reader, reader.instance_of[within], block, address, pw_id)
     first, second = MEANINGS["priority"].value
     within.rank, made.rank = Said(first, within.line), Said(second, block.line)
     return made

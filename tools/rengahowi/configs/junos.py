@@ -27,6 +27,8 @@ MEANINGS = {
 }
 # The control channels of RFC 5085 section 5.3.1 by the words of `control-channel`.
 CHANNELS = {"pwe3-control-word": 1, "router-alert-label": 2, "pw-label-ttl-1": 4}
+# Why lines of a VPLS that begin so are not used.
+FRONTS = {"l2vpn-id": "fec129", "vrf-target": "discovery", "route-distinguisher": "discovery"}
 
 
 class Group:
@@ -75,9 +77,9 @@ def unit(reader: Reader, within: Interface, block: Block, number: str) -> Interf
     return reader.interface(name, block.line)
 
 
-def instance(reader: Reader, _router: Router, block: Block, name: str) -> JunosInstance:
+def instance(reader: Junos, _router: Router, block: Block, name: str) -> JunosInstance:
     """A routing instance."""
-    found: dict[str, JunosInstance] = reader.instances  # type: ignore[attr-defined]
+    found: dict[str, JunosInstance] = reader.instances
     return found.setdefault(name, JunosInstance(plain(name), block.line))
 
 
@@ -143,9 +145,9 @@ def circuit_neighbour(_reader: Reader, _within: Any, _block: Block, address: str
     return address
 
 
-def circuit(reader: Reader, within: str, block: Block, name: str) -> JunosWire:
+def circuit(reader: Junos, within: str, block: Block, name: str) -> JunosWire:
     """A Layer 2 circuit: an interface and its pseudowire."""
-    found: dict[tuple[str, str], JunosWire] = reader.circuits  # type: ignore[attr-defined]
+    found: dict[tuple[str, str], JunosWire] = reader.circuits
     if (within, name) not in found:
         wire = wire_in(reader, {}, block, within, POINT)
         wire.offer["control_word"] = Said(MEANINGS["control word of a circuit"].value, block.line)
@@ -272,7 +274,7 @@ class Junos(Reader):
     def add_instance(self, made: JunosInstance) -> None:
         """A VPLS."""
         for block in made.kept:
-            self.left(block, "fec129" if block.text.startswith("l2vpn-id") else "discovery" if block.text.startswith(("vrf-target", "route-dist")) else "subject")
+            self.left(block, next((why for front, why in FRONTS.items() if block.text.startswith(front)), "subject"))
         self.router.instances.append(made)
         for name, line in made.ports.items():
             if made.untagged and name in self.interfaces:
@@ -282,7 +284,8 @@ class Junos(Reader):
         for group in [made.own, *named]:
             alone = group is made.own or (not made.own.wires and not group.switched and sum(not one.switched for one in named) == 1)
             if not alone and not group.switched and len(group.wires) > 1:
-                self.tell(group.line, f"mesh-group {group.name} is no local-switching: its neighbours do not reach each other, and spokes of a scenario do", "differs")
+                text = f"mesh-group {group.name} is no local-switching: its neighbours do not reach each other, and spokes of a scenario do"
+                self.tell(group.line, text, "differs")
             for wire in group.wires.values():
                 wire.kind = MESH if alone else SPOKE
                 wire.offer = {**group.offer, **wire.offer}

@@ -61,9 +61,9 @@ def interface(reader: Reader, _router: Router, block: Block, name: str) -> Inter
     return reader.interface(plain(name), block.line)
 
 
-def sdp(reader: Reader, _router: Router, block: Block, number: str, _kind: str | None) -> Sdp:
+def sdp(reader: SrOs, _router: Router, block: Block, number: str, _kind: str | None) -> Sdp:
     """A tunnel."""
-    found: dict[str, Sdp] = reader.sdps  # type: ignore[attr-defined]
+    found: dict[str, Sdp] = reader.sdps
     return found.setdefault(number, Sdp(block.line))
 
 
@@ -161,10 +161,10 @@ def by_hand(reader: Reader, within: SrWire, block: Block, _text: str) -> None:
         static(reader, within, block)
 
 
-def sap(reader: Reader, within: Instance, block: Block, name: str, text: str | None) -> Sap:
+def sap(reader: SrOs, within: Instance, block: Block, name: str, text: str | None) -> Sap:
     """A circuit."""
     made = Sap(name, block.line, within)
-    reader.saps.append(made)  # type: ignore[attr-defined]
+    reader.saps.append(made)
     if text is not None and text.removesuffix("create").strip():
         reader.tell(block.line, f"'{text.removesuffix('create').strip()}' of sap {name} has no counterpart in a scenario")
     return made
@@ -331,7 +331,8 @@ class SrOs(Reader):
                 wire.rank = wire.rank or Said(MEANINGS["precedence"].value, wire.line)
         several = [found for found in members.values() if len(found) > 1]
         for found in several[1:]:
-            self.tell(found[0].line, f"endpoint {found[0].endpoint} is not the only one here: a scenario's spoke edge uses one spoke of a service at a time", "differs")
+            text = f"endpoint {found[0].endpoint} is not the only one here: a scenario's spoke edge uses one spoke of a service at a time"
+            self.tell(found[0].line, text, "differs")
 
     def use_groups(self, wires: list[SrWire]) -> None:
         """Spokes in one split horizon group are a mesh, where nothing else is."""
@@ -357,7 +358,8 @@ class SrOs(Reader):
         elif not tag.isdigit() or len(tag) > 4:
             self.tell(one.line, f"sap {one.name} is left out: a scenario's circuit has one tag, or none")
         elif tag == "0":
-            self.tell(one.line, f"sap {one.name} takes frames without a tag, and a scenario's circuit without a tag takes those with tags of their own, too", "differs")
+            text = f"sap {one.name} takes frames without a tag, and a scenario's circuit without a tag takes those with tags of their own, too"
+            self.tell(one.line, text, "differs")
             one.instance.circuits.append(Circuit(one.name, one.line))
         elif self.number(Block("", one.line), tag, 1, 4094, "tag") is not None:
             one.instance.circuits.append(Circuit(one.name, one.line, int(tag)))

@@ -161,8 +161,11 @@ class Text:
 
     def one(self, part: Part, key: str) -> Any:
         """The value that all ends of a service share here."""
-        ends = part.ends()
-        return ends[0].offer[key] if ends else self.plan.services[part.service]["mtu"] if key == "mtu" else SILENT.get(key, self.meanings[key].value if key in self.meanings else None)
+        if part.ends():
+            return part.ends()[0].offer[key]
+        if key == "mtu":
+            return self.plan.services[part.service]["mtu"]
+        return SILENT[key] if key in SILENT else self.meanings[key].value
 
     def keepalive(self, edge: str) -> int | None:
         """The KeepAlive time of an edge, where it is not the one that stands by itself."""

@@ -13,7 +13,6 @@ from .reading import (
 TYPE_CHECKING = False
 if TYPE_CHECKING:
     from collections.abc import Iterator
-    from typing import Any
 
 GUIDE = "Huawei VRP, Configuration Guide - VPN, VPLS Configuration"
 MEANINGS = {
@@ -71,10 +70,10 @@ def peer(reader: Reader, within: Instance, block: Block, address: str, text: str
     return made
 
 
-def protect_group(reader: Reader, within: Instance, block: Block, name: str) -> Protected:
+def protect_group(reader: Vrp, within: Instance, block: Block, name: str) -> Protected:
     """A group of peers of which one is used."""
     made = Protected(name, within, block.line)
-    reader.protected.append(made)  # type: ignore[attr-defined]
+    reader.protected.append(made)
     return made
 
 
@@ -85,15 +84,15 @@ def preferred(reader: Reader, within: Protected, block: Block, address: str, pw_
         within.members.append((address, pw_id, Said(number, block.line)))
 
 
-def line_to(reader: Reader, within: Interface, block: Block, address: str, pw_id: str, text: str | None) -> None:
+def line_to(reader: Vrp, within: Interface, block: Block, address: str, pw_id: str, text: str | None) -> None:
     """A line of an interface: its neighbour, its PW ID, and the words behind them."""
     words = (text or "").split()
-    if "secondary" in words and within in reader.lines:  # type: ignore[attr-defined]
-        made = reader.lines[within]  # type: ignore[attr-defined]
+    if "secondary" in words and within in reader.lines:
+        made = reader.lines[within]
     else:
         made = instance_of(reader, block, None)
         made.point = True
-        reader.lines[within] = made  # type: ignore[attr-defined]
+        reader.lines[within] = made
         reader.waiting.append((made, within.name, block.line))
     wire = pseudowire_to(reader, block, address, pw_id, POINT)
     made.pseudowires.append(wire)
@@ -104,9 +103,9 @@ def line_to(reader: Reader, within: Interface, block: Block, address: str, pw_id
         made.pseudowires[0].rank = Said(first, made.pseudowires[0].line)
 
 
-def line_by(reader: Reader, within: Interface, block: Block, name: str, pw_id: str, text: str | None) -> None:
+def line_by(reader: Vrp, within: Interface, block: Block, name: str, pw_id: str, text: str | None) -> None:
     """A line of an interface whose neighbour stands in a template."""
-    reader.templated.append((within, block, name, pw_id, text))  # type: ignore[attr-defined]
+    reader.templated.append((within, block, name, pw_id, text))
 
 
 def offers_of(reader: Reader, block: Block, words: list[str]) -> dict[str, Said]:
