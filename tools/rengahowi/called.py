@@ -17,9 +17,9 @@ def replayed(path: str | pathlib.Path) -> bytes:
     return called("replay", path)
 
 
-def called(word: str, path: str | pathlib.Path) -> bytes:
-    """What the program makes of a scenario, which has to end well."""
-    done = subprocess.run([program.path(), word, path], stdin=subprocess.DEVNULL, capture_output=True, check=False)
+def called(word: str, *paths: str | pathlib.Path) -> bytes:
+    """What the program makes of a scenario, or of one and a script, which has to end well."""
+    done = subprocess.run([program.path(), word, *paths], stdin=subprocess.DEVNULL, capture_output=True, check=False)
     if done.returncode != 0:
         raise Fault(done.stderr.decode(errors="replace").strip() or f"the program ended with status {done.returncode}")
     return done.stdout

@@ -23,6 +23,8 @@ if TYPE_CHECKING:
 NOTHING: dict[str, int] = {}
 # What may be wrong with a frame: it never comes to a site, comes there twice, or comes back to where it entered.
 KINDS = ("never", "twice", "back")
+# Lines of packets, and what a script tells of Hellos.
+SKIPPED = {"sen", "> a", "dro", "hel", "adj", "bar"}
 # The phase that is settled while the failure stands, and those in which a failure stands: dead edges let no frame enter then.
 SETTLED, STANDS = "failed", ("at once", "failed")
 
@@ -67,6 +69,7 @@ class Reading:
         # Which edges reached each other, and which wires carried frames, before the mending; and what was learned that leads astray then.
         self.standing: tuple[dict[str, set[Any]], set[str]] = {}, set()
         self.stale: list[dict[str, Any]] = []
+        self.is_in_tick = False
         self.losses.begin(self.pace.when(self.network))
 
     def read(self, lines: list[str]) -> Reading:
@@ -75,7 +78,7 @@ class Reading:
         entries: list[str] = []
         for line in lines:
             start = line[:3]
-            if start in ("sen", "> a", "dro") or start == "> d" and line.startswith("> drop "):
+            if start in SKIPPED or start == "> d" and line.startswith("> drop "):
                 continue
             if start == "lef":
                 circuit = line.split(" ", 2)[1]
@@ -187,14 +190,23 @@ class Reading:
         if words[0] == "deliver":
             self.pace.deliver((words[1], words[2]))
         elif words[0] == "tick":
-            self.pace.ticks()
-            if self.watch is not None:
-                self.watch.tick()
-        elif self.pace.switch():
+            self.tick()
+            self.is_in_tick = False
+        elif words[0] == "lose" and self.base.script is not None and self.watch is not None and not self.watch.is_over and self.pace.is_behind():
+            self.tick()
+            self.is_in_tick = True
+        elif self.pace.switch(" ".join(words) == self.case.mending[0] if self.case.mending else False):
             if self.watch is not None:
                 self.watch.end()
             self.standing = dict(self.losses.joined), self.network.carrying - self.losses.hidden
             self.losses.mend(self.pace.when(self.network))
+
+    def tick(self) -> None:
+        """A tick begins: with the adjacencies that end in it, where a script has Hellos, and else by itself."""
+        if not self.is_in_tick:
+            self.pace.ticks()
+            if self.watch is not None:
+                self.watch.tick()
 
     def begin(self, words: list[str]) -> None:
         """An event that applies begins: who hears something, and whose end is gone."""

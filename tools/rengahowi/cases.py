@@ -23,6 +23,7 @@ TYPE_CHECKING = False
 if TYPE_CHECKING:
     from .clock import Times
     from .plan import Plan
+    from .scripts import Script
 
 # Rounds that are tried first, and behind a failure that takes more.
 FIRST_ROUNDS, MORE = 8, 4
@@ -39,8 +40,8 @@ class Tried(NamedTuple):
 class Base:
     """What all cases begin with: the plan, the network behind its set-up, and the report up to the failure."""
 
-    def __init__(self, plan: Plan, text: str, events: list[str], times: Times | None = None) -> None:
-        self.plan, self.probes, self.events = plan, Probes(plan), list(events)
+    def __init__(self, plan: Plan, text: str, events: list[str], times: Times | None = None, script: Script | None = None) -> None:
+        self.plan, self.probes, self.events, self.script = plan, Probes(plan), list(events), script
         self.times, self.arrivals = times, Arrivals()
         self.spliced = Spliced(text)
         self.sites = {name: plan.circuits_of(row["service"]) for name, row in plan.circuits.items()}
@@ -61,7 +62,7 @@ class Base:
         self.before = Reading(self, Case("", "", (), ()), 1, "before").read(self.front[len(front) :].decode().splitlines()).found["before"]
         self.packets_before = packets_in(before) - self.packets
         self.most_rounds = self.probes.most_rounds(len(self.events))
-        self.timers = timers_behind(plan, report, self.network)
+        self.timers = timers_behind(plan, report, self.network, script)
         self.ticks = octets.count(b"\n> tick")
 
     def foretell(self) -> None:
@@ -71,9 +72,17 @@ class Base:
         self.arrivals.learn(lines, self.probes.numbers_in("at once"), self.packets + self.packets_before + 1)
 
     def replay(self, path: pathlib.Path, events: list[str]) -> bytes:
-        """The report of the set-up with these events in the place of its own."""
+        """The report of the set-up with these events in the place of its own, or behind the script."""
+        if self.script is not None:
+            path.write_text(self.spliced.with_events([]), encoding="utf-8")
+            path.with_suffix(".discover").write_text(self.script_of(events), encoding="utf-8")
+            return called("discover", path, path.with_suffix(".discover"))
         path.write_text(self.spliced.with_events(events), encoding="utf-8")
         return replayed(path)
+
+    def script_of(self, events: list[str]) -> str:
+        """The text of the script with these events behind its own lines."""
+        return "".join(f"{line}\n" for line in self.script.with_events(events)) if self.script is not None else ""
 
     def all_events(self, events: list[str]) -> list[str]:
         """These events behind the set-up and the first phase."""
@@ -88,8 +97,10 @@ class Base:
 
     def tables_of(self, folder: str | pathlib.Path, events: list[str]) -> Tables:
         """The tables of the network behind these events."""
-        path = pathlib.Path(folder, "tables.toml")
-        path.write_text(self.spliced.with_events(self.all_events(events)), encoding="utf-8")
+        path, events = pathlib.Path(folder, "tables.toml"), self.all_events(events)
+        if self.script is not None:  # whose report has the events that its lines came to
+            events = [line[2:] for line in self.replay(path, events).decode().splitlines() if line.startswith("> ")]
+        path.write_text(self.spliced.with_events(events), encoding="utf-8")
         return Tables(called("tables", path).decode())
 
     def try_case(self, case: Case, folder: str | pathlib.Path, rounds: int = FIRST_ROUNDS) -> Tried:

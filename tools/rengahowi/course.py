@@ -7,6 +7,7 @@ from __future__ import annotations
 from .case_reading import Reading
 from .command import Fault
 from .probing import ALL
+from .scripts import HEAR
 from .stale import stale
 
 TYPE_CHECKING = False
@@ -40,6 +41,9 @@ class Course:
         # The ticks that have whole rounds though no hold time ends then, the tick at which one ends next, and whether it is the last.
         self.full: set[int] = set()
         self.end, self.is_last = 0, False
+        # The Hellos that are said until then, by their ticks; where there are some, all are heard again before the mending.
+        self.hears: dict[int, list[Way]] = {}
+        self.mending = [*(f"{HEAR} {a} {b}" for a, b in sorted(self.silence.ways) if (a, b) in self.timers.hellos), *case.mending]
 
     def events(self) -> list[str]:
         """The events behind those of the set-up and the first phase."""
@@ -47,7 +51,7 @@ class Course:
         if not self.is_begun:
             return events
         self.next = self.ticks()
-        return [*events, *self.done, *self.next, *(self.base.probes.tail(self.case, self.rounds, self.silence.edges) if self.is_last else [])]
+        return [*events, *self.done, *self.next, *(self.base.probes.tail(self.mending, self.rounds, self.silence.edges) if self.is_last else [])]
 
     def round(self) -> list[str]:
         """One delivery on each way that is not silent."""
@@ -70,14 +74,14 @@ class Course:
         self.end = max(timers.tick + 1, min(map(timers.expiry, waiting)))
         # Where all that wait end then it is the last one, as the report has to show.
         self.is_last = all(timers.expiry(end) <= self.end for end in waiting)
-        due = timers.keepalives(self.end, self.ways)
-        due.update((tick, []) for tick in self.full if timers.tick < tick < self.end)
+        due, self.hears = timers.keepalives(self.end, self.ways), timers.hears(self.end, self.ways)
+        due.update((tick, due.get(tick, [])) for tick in (*self.full, *self.hears, self.end) if timers.tick < tick <= self.end)
         events, tick = [], timers.tick
         for at, ways in sorted(due.items()):
-            events.append(f"tick {at - tick}")
-            events += self.round() * self.rounds if at in self.full else [f"deliver {a} {b} {ALL}" for a, b in ways]
+            events += [f"tick {at - tick}", *(f"{HEAR} {a} {b}" for a, b in self.hears.get(at, []))]
+            events += self.round() * self.rounds if at in self.full or at == self.end else [f"deliver {a} {b} {ALL}" for a, b in ways]
             tick = at
-        return [*events, f"tick {self.end - tick}", *self.round() * self.rounds]
+        return events
 
     def is_right(self, watch: Watch, lines: list[str], is_late: bool) -> bool:
         """Whether a report of these events is as it was foretold, and all was delivered in the rounds that they have; else more is known
@@ -94,7 +98,12 @@ class Course:
             self.is_begun = True
         else:
             self.done, self.next = self.done + self.next, []
-        self.timers = watch.timers
+        adjacencies = self.timers
+        for tick, ways in self.hears.items():
+            for way in ways:
+                adjacencies.hear(way, tick)
+        self.timers, self.hears = watch.timers, {}
+        self.timers.adjacencies = adjacencies.adjacencies
         return False
 
     def mend(self, tick: int) -> bool:

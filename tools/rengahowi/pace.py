@@ -44,16 +44,20 @@ class Pace:
         if self.clock is not None:
             self.clock.tick(self.tick)
 
-    def switch(self) -> bool:
-        """Something is switched; whether that is the first event of the mending."""
+    def switch(self, is_mending: bool) -> bool:
+        """Something is switched; whether that is the first event of the mending, which has those words."""
         self.switches, self.edge = self.switches + 1, None
-        if self.switches != self.before + 1:
+        if self.is_mended or self.switches <= self.before or not is_mending:
             return False
         self.is_mended, self.tick, self.delivered, self.round, self.size = True, 0, 0, 0, self.whole
         if self.clock is not None:
             self.clock.begin()
         self.told.clear()
         return True
+
+    def is_behind(self) -> bool:
+        """Whether the events of the failure have come, and those of the mending have not."""
+        return self.switches >= self.before and not self.is_mended
 
     def hear(self, way: Way) -> None:
         """What a neighbour said comes to an edge."""

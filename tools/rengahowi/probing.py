@@ -9,7 +9,7 @@ from .keys import MOST_ROWS
 
 TYPE_CHECKING = False
 if TYPE_CHECKING:
-    from collections.abc import Collection, Iterator
+    from collections.abc import Collection, Iterable, Iterator
     from typing import Any
 
     from .failures import Case
@@ -87,11 +87,11 @@ class Probes:
 
     def after(self, case: Case, rounds: int) -> list[Any]:
         """A case's own events, behind those of `before`."""
-        return [*case.failure, *self.phase("at once"), *self.round * rounds, *self.tail(case, rounds)]
+        return [*case.failure, *self.phase("at once"), *self.round * rounds, *self.tail(case.mending, rounds)]
 
-    def tail(self, case: Case, rounds: int, dead: Collection[str] = ()) -> list[str]:
+    def tail(self, mending: Iterable[str], rounds: int, dead: Collection[str] = ()) -> list[str]:
         """What comes of a case once its failure was delivered: the phase in which it stands, its mending, and the last phase."""
-        return [*self.rest(), *self.phase("failed", dead), *case.mending, *self.rounds(rounds), *self.phase("mended")]
+        return [*self.rest(), *self.phase("failed", dead), *mending, *self.rounds(rounds), *self.phase("mended")]
 
     def most_rounds(self, events: int) -> int:
         """How many rounds a scenario has room for, behind a set-up of so many events."""

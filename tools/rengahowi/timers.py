@@ -2,6 +2,8 @@
 
 from __future__ import annotations
 
+from .scripts import Adjacency
+
 TYPE_CHECKING = False
 if TYPE_CHECKING:
     from collections.abc import Iterable
@@ -9,6 +11,7 @@ if TYPE_CHECKING:
     from .network import Network
     from .plan import Plan
     from .report import Report
+    from .scripts import Script
     from .silence import Way
 
 
@@ -21,11 +24,15 @@ class Timers:
         self.put: dict[Way, int] = {}
         self.heard: dict[Way, int] = {}
         self.ends: set[Way] = set()
+        # Where a script has Hellos: the adjacency of each edge with a peer, and the hold time of what is said on each way.
+        self.adjacencies: dict[Way, Adjacency] = {}
+        self.hellos: dict[Way, int | None] = {}
 
     def copy(self) -> Timers:
         """Timers of the same moment."""
         made = Timers(self.plan)
         made.tick, made.put, made.heard, made.ends = self.tick, dict(self.put), dict(self.heard), set(self.ends)
+        made.adjacencies, made.hellos = dict(self.adjacencies), self.hellos
         return made
 
     def hold(self, end: Way) -> int:
@@ -37,8 +44,26 @@ class Timers:
         return max(1, self.hold(end) // 3)
 
     def expiry(self, end: Way) -> int:
-        """The tick at which an end gives up that hears nothing more."""
-        return self.heard.get(end, self.tick) + self.hold(end)
+        """The tick at which an end gives up that hears nothing more: its hold time is over, or its adjacency."""
+        adjacency = self.adjacencies[end].expiry() if end in self.adjacencies else None
+        expiry = self.heard.get(end, self.tick) + self.hold(end)
+        return expiry if adjacency is None else min(expiry, adjacency)
+
+    def hears(self, last: int, ways: Iterable[Way]) -> dict[int, list[Way]]:
+        """The ticks up to this one at which Hellos are said on some of these ways, each three times in its hold time."""
+        found: dict[int, list[Way]] = {}
+        for way in ways:
+            hold = self.hellos.get(way)
+            if hold is not None:
+                third = max(1, hold // 3)
+                heard = self.adjacencies[way[::-1]].heard if way[::-1] in self.adjacencies else self.tick
+                for tick in range(max(self.tick + 1, heard + third), last + 1, third):
+                    found.setdefault(tick, []).append(way)
+        return found
+
+    def hear(self, way: Way, tick: int) -> None:
+        """A Hello is heard."""
+        self.adjacencies[way[::-1]] = Adjacency(tick, self.hellos[way])
 
     def keepalives(self, last: int, ways: Iterable[Way]) -> dict[int, list[Way]]:
         """The ticks up to this one, without it, at which KeepAlives are put on some of these ways, and on which of them."""
@@ -51,9 +76,12 @@ class Timers:
         return dict(sorted(found.items()))
 
 
-def timers_behind(plan: Plan, report: Report, network: Network) -> Timers:
+def timers_behind(plan: Plan, report: Report, network: Network, script: Script | None = None) -> Timers:
     """The timers behind a report whose network has come to this."""
     found = Timers(plan)
+    if script is not None:
+        found.adjacencies = dict(script.adjacencies)
+        found.hellos = {way: script.hold(way) for way in script.proposed}
     put: dict[Way, int] = {}
     heard: dict[Way, int] = {}
     tick = 0

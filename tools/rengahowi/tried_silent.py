@@ -13,7 +13,7 @@ from .frames import follow
 from .plan import read_plan
 from .report import read_report
 from .summing import sum_up
-from .trying import TOP, compare, tool
+from .trying import PROGRAM, TOP, compare, run, tool
 
 TYPE_CHECKING = False
 if TYPE_CHECKING:
@@ -67,12 +67,19 @@ TIMED = [
 TIMES = '[time]\ntick = "500ms"\none_way = "10ms"\n\n[[link]]\nedges = ["x", "b"]\none_way = "35ms"\n'
 
 
+# A script that sets up the plan that moves, by Hellos: each adjacency lives 45 ticks, and those of a and x 15, which a proposes. So x finds
+# out in tick 15 that a is dead; where a does, x hears of it by a message. The KeepAlive of 9 is over before.
+HELLOS = [("a", "b", 45), ("b", "a", 45), ("a", "c", 45), ("c", "a", 45), ("b", "c", 45), ("c", "b", 45), ("a", "x", 15), ("x", "a", 45), ("b", "x", 45), ("x", "b", 45)]
+SCRIPTED = [((), "silent a", 15.01), ((), "silent a to x", 15.01), ((), "silent x to a", 15.02), (("--set", "keepalive=9"), "silent a", 9.01)]
+
+
 def silences(folder: pathlib.Path, _gone: set[str]) -> Iterator[Any]:
     """Silent failures counted by hand, and beside what `summary` counts; times, other timers, and words that are none."""
     yield from by_hand()
     for name, begin in (CROSS, MOVES, MESHED):
         yield from as_summed(name, begin)
     yield from timed(folder)
+    yield from scripted(folder)
     yield from listed()
     yield from refused(folder)
 
@@ -172,6 +179,26 @@ def timed(folder: pathlib.Path) -> Iterator[Any]:
         found = tried(*MOVES, *more, "--kinds", "silent", "--case", case)
         one = found["cases"][0]["lost"][0]
         yield compare(f"what-if {case}, {words}", (one["seconds"], round(one["detection"] + one["signalling"], 6)), (right, right))
+
+
+def scripted(folder: pathlib.Path) -> Iterator[Any]:
+    """Adjacencies that end before sessions do, where a script sets the network up; the script that is saved makes the same run."""
+    path, saved = EXAMPLES / "spoke-moves.toml", folder / "saved"
+    lines = [line for number, (a, b, hold) in enumerate(HELLOS, 1) for line in (f"hello {a} {b} {hold}", f"bring {number}")]
+    lines += [*(f"open {a} {b}" for a, b, _ in HELLOS[::2]), "do settle 1000"]
+    script = folder / "moves.discover"
+    script.write_text("".join(f"{line}\n" for line in lines), encoding="utf-8")
+    for words, case, right in SCRIPTED:
+        found = json.loads(tool("what-if", path, "--script", script, *WORDS, *words, "--case", case, "--save", saved, "--json")[1])
+        (row,) = found["cases"]
+        yield compare(f"what-if --script {words}, {case}", (row["lost"][0]["seconds"], row["stale"], row["calm"]), (right, [], True))
+    done = run([PROGRAM, "discover", saved / "silent-x-to-a.toml", saved / "silent-x-to-a.discover"], folder, text=True)
+    told = [line for line in done.stdout.splitlines() if line.startswith("adjacency") and line.endswith("down")]
+    yield compare("what-if --script --save", (done.returncode, told), (0, ["adjacency a x down"]))
+    for more, said, words in [(("--from", "1"), "hello a b 9\n", "--from does not go with it"), ((), "bring b\n", "is no script that"), ((), "jump\n", "script: 1 1")]:
+        script.write_text(said, encoding="utf-8")
+        status, _, fault = tool("what-if", path, "--script", script, *more)
+        yield compare(f"what-if --script of {said!r}", (status, words in fault, fault.count("\n")), (1, True, 1))
 
 
 def listed() -> Iterator[Any]:
