@@ -3,6 +3,7 @@
 from __future__ import annotations
 
 import pathlib
+
 from ..command import Fault
 from ..keys import MOST_ROWS, OFFER
 from .agreeing import tell_differences
