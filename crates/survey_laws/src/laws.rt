@@ -1,0 +1,23 @@
+//! What holds of faults in every run of the network.
+ghost use Rattle.survey_laws.specs.Laws.{CircuitAlone, FaultsAreExact, SameFaults};
+
+/// Events that take something, a connection, a wire, an edge, the number of a spoke or a circuit, leave of the network exactly what their
+/// faults leave: in whatever state they come, be they applied or idle, in whatever order, and with whatever deliveries, frames, packets
+/// and pings between them.
+#[tactic(auto, using(crate::proofs::FaultLemmas::faults_are_exact))]
+pub fn faults_are_exact()
+    ensures { FaultsAreExact }
+{}
+
+/// Faults that take the same wires and circuits, and set the same numbers, decide the same: in whatever order, however often, and by
+/// whatever events they came.
+#[tactic(auto, using(crate::proofs::SameLemmas::same_faults))]
+pub fn same_faults()
+    ensures { SameFaults }
+{}
+
+/// A circuit that goes off takes itself alone: whom all others reach stays as it was.
+#[tactic(auto, using(crate::proofs::SameLemmas::circuit_alone))]
+pub fn circuit_alone()
+    ensures { CircuitAlone }
+{}
