@@ -17,6 +17,8 @@ if TYPE_CHECKING:
 
 # What fails, in the order of the table.
 KINDS = ["session", "wire", "restart", "circuit", "priority", "status", "silent"]
+# What of the last kind may be tried by itself: edges, or links.
+PARTS = ["silent-edge", "silent-link"]
 # The number by which a spoke is the last one that is used, and the bit of a failure (RFC 4446 section 3.5: not forwarding).
 LAST, FAILED = 255, 1
 
@@ -42,8 +44,8 @@ class Case(NamedTuple):
 def cases_of(plan: Plan, network: Network, kinds: Iterable[str]) -> list[Any]:
     """The cases of these kinds: those that change something in the network that the set-up left."""
     makers = {"session": sessions, "wire": wires, "restart": restarts, "circuit": circuits, "priority": priorities, "status": statuses}
-    makers["silent"] = silences
-    return [case for kind in KINDS if kind in kinds for case in makers[kind](plan, network)]
+    makers.update({"silent": silences, "silent-edge": dead_edges, "silent-link": silent_links})
+    return [case for kind in [*KINDS, *PARTS] if kind in kinds and not (kind in PARTS and "silent" in kinds) for case in makers[kind](plan, network)]
 
 
 def case(kind: str, failure: Any, *mending: Any) -> Case:
@@ -114,10 +116,23 @@ def statuses(plan: Plan, network: Network) -> Iterator[Any]:
 
 
 def silences(plan: Plan, network: Network) -> Iterator[Case]:
-    """Each edge with a session dies without a word; each session that stands carries nothing any more, and then in one direction."""
+    """All that may go silent."""
+    yield from dead_edges(plan, network)
+    yield from silent_links(plan, network)
+
+
+def dead_edges(plan: Plan, network: Network) -> Iterator[Case]:
+    """Each edge with a session dies without a word."""
     up = [pair for pair in plan.pairs() if network.is_up(*pair)]
-    words = [f"silent {edge}" for edge in plan.edges if any(edge in pair for pair in up)]
-    words += [f"silent {a} {b}" for a, b in up]
+    for edge in plan.edges:
+        if any(edge in pair for pair in up):
+            yield case("silent", f"silent {edge}", *mending_of(plan, f"silent {edge}", up))
+
+
+def silent_links(plan: Plan, network: Network) -> Iterator[Case]:
+    """Each session that stands carries nothing any more, and then in one direction."""
+    up = [pair for pair in plan.pairs() if network.is_up(*pair)]
+    words = [f"silent {a} {b}" for a, b in up]
     words += [f"silent {a} to {b}" for pair in up for a, b in (pair, pair[::-1])]
     for text in words:
         yield case("silent", text, *mending_of(plan, text, up))

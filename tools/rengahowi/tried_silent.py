@@ -207,6 +207,8 @@ def listed() -> Iterator[Any]:
     rows = [line.split() for line in tool("what-if", path, *words, "--sites")[1].splitlines()]
     yield compare("what-if --sites", rows[3], "s cx 180.02 s 180 s 0.02 s silent x to a ca, cc - -".split())
     yield compare("what-if --sites, with its edge", rows[1][-2:], ["silent", "a"])
+    kinds = {kind: len(tried(*CROSS, "--kinds", kind)["cases"]) for kind in ("silent-edge", "silent-link", "silent-edge,silent")}
+    yield compare("what-if --kinds, edges and links", kinds, {"silent-edge": 2, "silent-link": 3, "silent-edge,silent": 5})
     rows = [line.split() for line in tool("what-if", path, *words, "--sweep", "keepalive=3,9")[1].splitlines()]
     right = [f"keepalive = {number} {number}.02 s {number} s 0.02 s silent x to a 0 of 2 6 at once".split() for number in (3, 9)]
     yield compare("what-if --sweep", rows[1:], right)
