@@ -166,7 +166,11 @@ def collected(folder: pathlib.Path) -> Iterator[Any]:
     lines = tool("what-if", *words, "--jobs-for", "parallel")[1].splitlines()
     yield compare("what-if --jobs-for", (len(lines), [shlex.split(line)[-1] for line in lines]), (3, ["lose a b", "restart a", "restart b"]))
     rows.write_bytes(b"".join(run(["bash", "-c", line], folder).stdout for line in lines))
-    yield compare("what-if --collect", tool("what-if", *words, "--collect", rows), tool("what-if", *words))
+    saved, alone = folder / "collected", folder / "alone"
+    same = tool("what-if", *words, "--collect", rows, "--save", saved), tool("what-if", *words, "--save", alone)
+    yield compare("what-if --collect", same[0], same[1])
+    texts = [{path.name: path.read_text(encoding="utf-8") for path in place.iterdir()} for place in (saved, alone)]
+    yield compare("what-if --collect --save", (texts[0] == texts[1], len(texts[0])), (True, 3))
     rows.write_text("no line\n", encoding="utf-8")
     status, said, fault = tool("what-if", *words, "--collect", rows)
     yield compare("what-if --collect of no lines", (status, said, "line 1" in fault, fault.count("\n")), (1, "", True, 1))

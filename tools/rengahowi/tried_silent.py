@@ -195,8 +195,9 @@ def scripted(folder: pathlib.Path) -> Iterator[Any]:
     done = run([PROGRAM, "discover", saved / "silent-x-to-a.toml", saved / "silent-x-to-a.discover"], folder, text=True)
     told = [line for line in done.stdout.splitlines() if line.startswith("adjacency") and line.endswith("down")]
     yield compare("what-if --script --save", (done.returncode, told), (0, ["adjacency a x down"]))
-    bad: list[tuple[list[str], str, str]] = [(["--from", "1"], "hello a b 9\n", "does not go with it"), ([], "bring b\n", "is no script that")]
-    for options, text, part in [*bad, ([], "jump\n", "script: 1 1")]:
+    bad: list[tuple[list[str], str, str]] = [(["--from", "1"], "hello a b 9\n", "does not go with it")]
+    bad += [([], "bring b\n", "is no script that"), ([], "jump\n", "script: 1 1")]
+    for options, text, part in bad:
         script.write_text(text, encoding="utf-8")
         status, _, fault = tool("what-if", path, "--script", script, *options)
         yield compare(f"what-if --script of {text!r}", (status, part in fault, fault.count("\n")), (1, True, 1))
