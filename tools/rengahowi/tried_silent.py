@@ -12,6 +12,7 @@ from .failures import cases_of
 from .frames import follow
 from .plan import read_plan
 from .report import read_report
+from .stale import Tables, stale
 from .summing import sum_up
 from .trying import PROGRAM, TOP, compare, run, tool
 
@@ -80,6 +81,7 @@ def silences(folder: pathlib.Path, _gone: set[str]) -> Iterator[Any]:
         yield from as_summed(name, begin)
     yield from timed(folder)
     yield from scripted(folder)
+    yield from astray()
     yield from listed()
     yield from refused(folder)
 
@@ -201,6 +203,34 @@ def scripted(folder: pathlib.Path) -> Iterator[Any]:
         script.write_text(text, encoding="utf-8")
         status, _, fault = tool("what-if", path, "--script", script, *options)
         yield compare(f"what-if --script of {text!r}", (status, part in fault, fault.count("\n")), (1, True, 1))
+
+
+# Tables of the plan that moves, where a still has the station of cx behind its old spoke, and c behind a; b knows nothing of it. The
+# station of cc is behind bc at b, and c has it at its circuit.
+LEARNED = """edge a next=20
+mac s 020000000002 xa 7
+edge b next=20
+mac s 020000000001 bc 9
+edge c next=20
+mac s 020000000001 cc 9
+mac s 020000000002 ac 4
+edge x next=20
+"""
+
+
+def astray() -> Iterator[Any]:
+    """What is learned leads astray at the edge that is wrong, until it forgets that by its age; to those that no wires join, nothing does."""
+    plan, tables = read_plan(EXAMPLES / "spoke-moves.toml"), Tables(LEARNED)
+    stations = {"cc": "020000000001", "cx": "020000000002"}
+    carrying = {"ab", "ac", "bc", "xb"}
+    everyone = {frozenset((a, b)) for a in plan.edges for b in plan.edges if a != b}
+    found = stale(plan, tables, stations, {"s": everyone}, carrying)
+    right = [{"edge": "a", "site": "cx", "at": "a", "tick": 307}, {"edge": "c", "site": "cx", "at": "a", "tick": 307}]
+    yield compare("what-if, astray", found, right)
+    found = stale(plan, tables, stations, {"s": everyone - {frozenset("cx")}}, carrying)
+    yield compare("what-if, astray of those that are joined", found, right[:1])
+    found = stale(plan, tables, stations, {"s": everyone}, carrying | {"xa"})
+    yield compare("what-if, astray nowhere", found, [])
 
 
 def listed() -> Iterator[Any]:
