@@ -16,7 +16,7 @@ if TYPE_CHECKING:
 LEAST, LEAST_TAGGED = 60, 64
 TAG = b"\x81\x00"
 # More copies of one frame than these are not kept: they show a fault by far.
-MOST_COPIES = 1000
+MOST_COPIES = 200
 
 # A capture's number, and the number of a packet in it.
 Place = tuple[int, int]

@@ -11,8 +11,11 @@ TYPE_CHECKING = False
 if TYPE_CHECKING:
     from .lab_file import Lab
     from .lab_frames import Entered, Inner
+    from .lab_intake import Missing
     from .lab_stretches import Stretches
 
+# A time behind all others.
+LATER = 1 << 100
 # Groups that a bridge may keep for itself (IEEE 802.1D clause 7.12.6).
 RESERVED = bytes.fromhex("0180c20000")
 
@@ -25,15 +28,13 @@ def is_reserved(octets: bytes) -> bool:
 class Judging:
     """Counts floods, and says of each frame whether something came into its time that takes the promise from it."""
 
-    def __init__(self, lab: Lab, inner: Inner, stretches: Stretches) -> None:
-        self.lab, self.inner, self.stretches, self.plan = lab, inner, stretches, lab.plan
+    def __init__(self, lab: Lab, inner: Inner, stretches: Stretches, missing: Missing) -> None:
+        self.lab, self.inner, self.stretches, self.missing, self.plan = lab, inner, stretches, missing, lab.plan
         self.changes: dict[str, list[int]] = {service: [] for service in lab.plan.services}
-        self.heard: dict[str, set[bytes]] = {service: set() for service in lab.plan.services}
+        # When a frame of each station entered first.
+        self.heard: dict[str, dict[bytes, int]] = {service: {} for service in lab.plan.services}
         self.judged: collections.Counter[str] = collections.Counter()
         self.reasons: collections.Counter[str] = collections.Counter()
-        # Frames to a station of which no frame was seen so far: whether a flood was judged is known once all frames are.
-        self.unheard: collections.Counter[tuple[str, bytes]] = collections.Counter()
-        self.not_whole: set[str] = set()
 
     def change(self, services: set[str], time: int) -> None:
         """Something changes that floods of these services depend on."""
@@ -41,13 +42,9 @@ class Judging:
             if not self.changes[service] or self.changes[service][-1] != time:
                 self.changes[service].append(time)
 
-    def hear(self, service: str, source: bytes) -> None:
+    def hear(self, service: str, source: bytes, time: int) -> None:
         """A frame of a source enters."""
-        if source not in self.heard[service]:
-            self.heard[service].add(source)
-            taken = self.unheard.pop((service, source), 0)
-            self.judged[service] -= taken
-            self.reasons["the station was heard"] += taken
+        self.heard[service].setdefault(source, time)
 
     def ran(self, first: int, last: int) -> bool:
         """Whether all captures ran between two times, as far as LAB.toml tells."""
@@ -66,6 +63,11 @@ class Judging:
         """Whether each of its packets was seen at both ends."""
         return all(one.heard is not None for one in entered.crossings)
 
+    def over(self, entered: Entered, are_seen: bool) -> int:
+        """Until when what happens may take the promise from a frame."""
+        is_known = self.is_complete(entered) or are_seen and self.is_accounted(entered)
+        return (entered.last() if is_known else entered.time + self.lab.flood) + self.lab.settle
+
     def why_not(self, entered: Entered, are_seen: bool) -> str:
         """What takes the promise from a frame beside its service's state; empty where nothing does."""
         service, whole = self.inner.service[entered.circuit], self.is_complete(entered)
@@ -73,14 +75,13 @@ class Judging:
             return "they go to a group that a bridge may keep for itself (IEEE 802.1D)"
         if not self.ran(entered.time, entered.time + self.lab.flood):
             return "not all captures ran then (from and until of LAB.toml)"
-        over = entered.last() if whole or are_seen and self.is_accounted(entered) else entered.time + self.lab.flood
         times = self.changes[service]
         place = bisect.bisect_right(times, entered.time - self.lab.settle)
-        if place < len(times) and times[place] <= over + self.lab.settle:
+        if place < len(times) and times[place] <= self.over(entered, are_seen):
             return "a session, a pseudowire or a port changed in their time"
         if not whole and entered.twin is not None and not entered.twin.is_judged:
             return "another frame of the same octets was on its way"
-        if not whole and self.not_whole.intersection(self.sites(entered)):
+        if not whole and self.missing.circuits.intersection(self.sites(entered)):
             return "the capture of a port is not whole"
         if entered.octets[:6] == b"\x02\0\0\0\0\0" and self.inner.first:
             return "a cooked capture has no destination"
@@ -91,7 +92,7 @@ class Judging:
         service, target = self.inner.service[entered.circuit], entered.inner[:6]
         inner = self.inner.of(entered.circuit, entered.octets)
         is_group = len(target) > 0 and bool(target[0] & 1)
-        if not is_group and target in self.heard[service]:
+        if not is_group and self.heard[service].get(target, LATER) <= self.over(entered, are_seen):
             self.stretches.needs(service, target.hex())
             return False
         if not self.inner.is_formed(entered.circuit, inner):
@@ -108,8 +109,6 @@ class Judging:
             self.reasons[why] += 1
             return False
         self.judged[service] += 1
-        if not is_group:
-            self.unheard[service, target] += 1
         return True
 
     def why_not_calm(self, service: str) -> str:

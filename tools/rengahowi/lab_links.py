@@ -12,6 +12,7 @@ if TYPE_CHECKING:
     from .capture_reading import Packet
     from .findings import Findings
     from .lab_file import Lab, Row
+    from .lab_intake import Missing
     from .lab_sessions import Sessions
     from .lab_wires import WiresOfLdp
     from .plan import Wire
@@ -32,14 +33,12 @@ class Found:
 class Links:
     """Reads packets by the labels that the edges have told, and by the stations that they have in each capture."""
 
-    def __init__(self, lab: Lab, sessions: Sessions, wires: WiresOfLdp, findings: Findings) -> None:
-        self.lab, self.sessions, self.wires, self.findings = lab, sessions, wires, findings
+    def __init__(self, lab: Lab, sessions: Sessions, wires: WiresOfLdp, findings: Findings, missing: Missing) -> None:
+        self.lab, self.sessions, self.wires, self.findings, self.missing = lab, sessions, wires, findings, missing
         self.neighbours: dict[str, set[str]] = {edge: set() for edge in lab.plan.edges}
         for a, b in lab.plan.pairs():
             self.neighbours[a].add(b)
             self.neighbours[b].add(a)
-        # Neighbours of whose packets some are not known, so that what passes between them is not seen whole.
-        self.unknown: set[frozenset[str]] = set()
         self.others = 0
 
     def read(self, row: Row, packet: Packet) -> Found | None:
@@ -88,12 +87,13 @@ class Links:
         pairs = [frozenset(pair) for pair in ends] or [frozenset(row.link)] * bool(row.link) or [
             frozenset((row.at, other)) for other in self.neighbours.get(row.at, ())
         ]
-        self.unknown.update(pairs)
+        self.missing.pairs.update(pairs)
         if not ends:
             text = "the edges that a packet of MPLS passes between are not known: no LDP or OSPF of theirs is in the capture"
             self.findings.tell("stations", row.name, packet.number, text, "let the captures begin before LDP comes up, and write link and at in the row")
         elif count:
-            self.findings.tell("labels", row.name, packet.number, f"label {label} is that of several neighbours", "capture each link by itself, with link in the row")
+            text = f"label {label} is that of several neighbours"
+            self.findings.tell("labels", row.name, packet.number, text, "capture each link by itself, with link in the row")
         else:
             text = f"no LDP that was captured tells label {label}, so the packet's pseudowire is not known"
             self.findings.tell("label", row.name, packet.number, text, "let the captures begin before LDP comes up")

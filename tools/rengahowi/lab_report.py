@@ -3,17 +3,15 @@
 from __future__ import annotations
 
 import collections
-import contextlib
 import heapq
-import re
 import sys
 import time as clock
-import zlib
 
-from .capture_reading import IN, OUT, SECOND, Reader, dropped_at_end, tell_dropped
+from .capture_reading import IN, OUT, SECOND
 from .findings import Findings
 from .lab_blocks import BlockWriter
 from .lab_frames import TAG, Entered, Inner, Leaving, Matcher, Past
+from .lab_intake import Intake
 from .lab_judging import Judging, is_reserved
 from .lab_links import Links
 from .lab_sessions import MPLS, Sessions, Step
@@ -30,13 +28,12 @@ if TYPE_CHECKING:
     from .capture_reading import Packet
     from .lab_file import Lab, Row
     from .lab_stretches import Stretch
+    from .lab_tables import Told
 
 # Types of frames that devices make themselves: LLDP, slow protocols, and the loop test of some switches.
 OWN_TYPES = {b"\x88\xcc", b"\x88\x09", b"\x90\x00"}
 OWN_GROUPS = (bytes.fromhex("01000ccccccc"), bytes.fromhex("01000ccccccd"))
-MOST_PAST = 2_000_000
-FIRST_LOOK = 16
-DROPPED = re.compile(r"(\d+) packets? dropped by kernel")
+MOST_PAST = 1_000_000
 LATE = 10
 
 Item = tuple[int, int, int, str, "Any"]
@@ -50,8 +47,14 @@ class LabReport:
         self.sessions = Sessions(lab, self.findings)
         self.stretches = Stretches(lab.plan, done)
         self.wires = WiresOfLdp(lab.plan)
-        self.links = Links(lab, self.sessions, self.wires, self.findings)
+        self.intake = Intake(lab, self.findings, self.sessions.vantage)
+        self.inner, self.missing = self.intake.inner, self.intake.missing
+        self.links = Links(lab, self.sessions, self.wires, self.findings, self.missing)
+        self.matcher = Matcher(lab, self.inner)
+        self.judging = Judging(lab, self.inner, self.stretches, self.missing)
+        self.writer = BlockWriter(lab.plan, self.inner, self.stretches, lab.clocks)
         self.steps: list[Step] = []
+        self.tables: list[Told] = []
         self.told: dict[tuple[str, str], str] = {}
         self.derived: dict[tuple[str, str], str] = {}
         self.queue: collections.deque[tuple[int, str, Any]] = collections.deque()
@@ -60,108 +63,41 @@ class LabReport:
         self.unseen: collections.Counter[str] = collections.Counter()
         # Of each capture at a port with a tag, whether there are frames with one and without.
         self.tagged: dict[tuple[str, int], set[bool]] = {}
-        self.octets, self.shown = 0, 0.0
+        self.shown = 0.0
         self.wait = lab.flood + lab.settle
         self.past_is_cut = False
 
     def make(self) -> None:
         """Reads everything and writes the report."""
-        is_cooked = any(self.is_cooked(row) for row in self.lab.captures if row.is_port())
-        self.inner = Inner(self.plan, is_cooked)
-        self.matcher = Matcher(self.lab, self.inner)
-        self.judging = Judging(self.lab, self.inner, self.stretches)
-        self.writer = BlockWriter(self.plan, self.inner, self.stretches, self.lab.clocks)
-        self.steps = self.sessions.read()
+        self.steps, self.tables = self.sessions.read(), tables_of(self.lab)
         self.begin()
         for time, _, _, kind, what in self.merged():
             self.advance(time)
             self.take(time, kind, what)
         self.end()
 
-    def is_cooked(self, row: Row) -> bool:
-        """Whether a capture has cooked headers, by its first packet."""
-        return next((packet.cooked for packet in Reader(row.path, row.name, Findings()).packets()), False)
-
     def begin(self) -> None:
         """Ports of which nothing that leaves is captured take no part."""
         leaves = {circuit for row in self.lab.captures for circuit in row.circuits if row.direction != IN}
         enters = {circuit for row in self.lab.captures for circuit in row.circuits if row.direction != OUT}
-        self.blind = {self.inner.service[circuit] for circuit in self.plan.circuits if circuit not in enters}
+        self.missing.services |= {self.inner.service[circuit] for circuit in self.plan.circuits if circuit not in enters}
         for circuit in self.plan.circuits:
             if circuit not in leaves or circuit not in enters:
-                what = "what leaves there" if circuit in enters else "what enters there" if circuit in leaves else "it"
-                self.findings.tell(f"port {circuit}", self.lab.path, 0, f"{what} at circuit {circuit} is in no capture".replace("it at circuit", "circuit"), "capture it too")
+                what = "what leaves there at " if circuit in enters else "what enters there at " if circuit in leaves else ""
+                self.findings.tell(f"port {circuit}", self.lab.path, 0, f"{what}circuit {circuit} is in no capture", "capture it too")
             if circuit not in leaves:
                 self.stretches.circuit(circuit, "off")
-        tables = {(edge, wire) for _, (edge, *rest), _ in self.tables() for wire in rest}
+        tables = {(edge, wire) for _, (edge, *rest), _ in self.tables for wire in rest}
         ends = {(edge, wire.name) for wire in self.plan.wires.values() for edge in wire.ends()}
         if ends - tables and self.steps:
-            self.findings.tell("derived", self.lab.path, 0, f"the states of {len(ends - tables)} ends of pseudowires are worked out from LDP, since no table tells them")
-
-    def tables(self) -> Any:
-        """What the edges' own tables say, read once."""
-        if not hasattr(self, "read_tables"):
-            self.read_tables = tables_of(self.lab)
-        return self.read_tables
+            text = f"the states of {len(ends - tables)} ends of pseudowires are worked out from LDP, since no table tells them"
+            self.findings.tell("derived", self.lab.path, 0, text)
 
     def merged(self) -> Iterable[Item]:
         """Everything in the order of the times: of one time first LDP, then tables, then frames."""
         steps: Iterator[Item] = ((step.time, -2, place, "step", step) for place, step in enumerate(self.steps))
-        tables: Iterator[Item] = ((time, -1, place, "table", (end, state)) for place, (time, end, state) in enumerate(self.tables()))
-        return heapq.merge(steps, tables, *(self.packets(row) for row in self.lab.captures))
-
-    def packets(self, row: Row) -> Iterator[Item]:
-        """The packets of a capture, with what is wrong with them found."""
-        reader = Reader(row.path, row.name, self.findings)
-        self.look_at_log(row)
-        last, has_check, kind = 0, has_frame_check(row), "port" if row.is_port() else "link"
-        most = max((self.inner.most[circuit] for circuit in row.circuits), default=1 << 20) + 4
-        for packet in reader.packets():
-            if row.interface and packet.interface != row.interface:
-                continue
-            if has_check and packet.missing <= 0:
-                packet.octets = packet.octets[:-4]
-            if packet.missing > 0 or len(packet.octets) > most or packet.time + row.skew < last:
-                self.look_at(row, packet, most, last)
-            last = max(last, packet.time + row.skew)
-            yield last, row.number, packet.number, kind, (row, packet)
-        self.octets += reader.octets
-        if not reader.is_whole:
-            self.is_part(row)
-        if not reader.number:
-            self.findings.tell("empty", row.name, 0, "the capture has no packet", "look whether its interface is the right one")
-        if has_check:
-            self.findings.tell("check", row.name, 0, "frames end in their frame check sequence, which is taken off")
-
-    def is_part(self, row: Row) -> None:
-        """A capture is not whole: what is missing there may be missing in the capture alone."""
-        self.judging.not_whole.update(row.circuits)
-        if row.direction != OUT:
-            self.blind.update(self.inner.service[circuit] for circuit in row.circuits)
-        if row.link or not row.circuits:
-            self.links.unknown.update(pair for pair, places in self.sessions.vantage.places.items() if pair == set(row.link) or not row.link and row.at in pair)
-
-    def look_at(self, row: Row, packet: Packet, most: int, last: int) -> None:
-        """What is wrong with a packet."""
-        if packet.missing > 0:
-            self.is_part(row)
-            self.findings.tell("cut", row.name, packet.number, f"{packet.missing} octets of the packet are not there", "give tcpdump no -s, or -s 262144")
-        if len(packet.octets) > most:
-            text = f"{len(packet.octets)} octets are more than the service takes ({most - 4}): the card has joined frames, or they are too long"
-            self.findings.tell("long", row.name, packet.number, text, "turn offloading off (ethtool -K IFACE gso off tso off gro off lro off)")
-        if packet.time + row.skew < last:
-            gap = (last - packet.time - row.skew) / SECOND
-            self.findings.tell("falls", row.name, packet.number, f"its time is {gap:.6f} s before that of the packet before", "it is taken to be of that time; reordercap puts a capture in order")
-
-    def look_at_log(self, row: Row) -> None:
-        """What tcpdump said of a capture, where that was kept beside it, and what a capture says in its end."""
-        count = dropped_at_end(row.path)
-        with contextlib.suppress(OSError), open(row.log, encoding="utf-8", errors="replace") as file:
-            found = DROPPED.search(file.read())
-            count = max(count, int(found[1]) if found else 0)
-        if count:
-            tell_dropped(self.findings, row.name, count)
-            self.is_part(row)
+        tables: Iterator[Item] = ((time, -1, place, "table", (end, state)) for place, (time, end, state) in enumerate(self.tables))
+        return heapq.merge(steps, tables, *(self.intake.packets(row) for row in self.lab.captures))
 
     def take(self, time: int, kind: str, what: Any) -> None:
         """Something happens."""
@@ -188,7 +124,8 @@ class LabReport:
             self.unseen[f"{row.name} has frames of no circuit of its row"] += 1
             return
         if not direction:
-            self.findings.tell("direction", row.name, packet.number, "nothing tells whether the frame enters or leaves", 'capture by -Q in and -Q out, or name the stations behind the port (stations = [..])')
+            text = "nothing tells whether the frame enters or leaves"
+            self.findings.tell("direction", row.name, packet.number, text, "capture by -Q in and -Q out, or name the stations behind the port (stations = [..])")
             return
         tag = self.inner.tags[circuit]
         if tag is not None:
@@ -199,7 +136,7 @@ class LabReport:
         if direction == IN:
             self.queue.append((time, "frame", self.matcher.enter(time, circuit, octets, place)))
             if len(octets) >= 12:
-                self.judging.hear(self.inner.service[circuit], octets[6:12])
+                self.judging.hear(self.inner.service[circuit], octets[6:12], time)
         else:
             held = self.matcher.leave(time, circuit, octets, place)
             if held is not None:
@@ -210,7 +147,8 @@ class LabReport:
         if len(row.circuits) == 1:
             return row.circuits[0]
         tag = int.from_bytes(octets[14:16], "big") & 0x0FFF if octets[12:14] == TAG else None
-        return next((one for one in row.circuits if self.inner.tags[one] == tag), None) or next((one for one in row.circuits if self.inner.tags[one] is None), None)
+        of_tag = {self.inner.tags[one]: one for one in row.circuits}
+        return of_tag.get(tag, of_tag.get(None))
 
     def take_packet(self, time: int, row: Row, packet: Packet) -> None:
         """A packet between edges."""
@@ -287,7 +225,7 @@ class LabReport:
         """A frame and what became of it."""
         service = self.inner.service[entered.circuit]
         are_seen = all(
-            self.sessions.vantage.are_seen(*pair) and frozenset(pair) not in self.links.unknown for pair in self.plan.pairs(service)
+            self.sessions.vantage.are_seen(*pair) and frozenset(pair) not in self.missing.pairs for pair in self.plan.pairs(service)
         )
         why = self.judging.why_not(entered, are_seen)
         entered.is_judged = self.judging.count(entered, why, are_seen)
@@ -307,7 +245,7 @@ class LabReport:
                 self.own["to a reserved group" if is_reserved(octets) else "of its own"] += 1
                 return
             ran = self.judging.ran(leaving.time - self.lab.flood, leaving.time)
-            if not ran or self.past_is_cut or self.blind & {self.inner.service[circuit]}:
+            if not ran or self.past_is_cut or self.missing.services & {self.inner.service[circuit]}:
                 self.unseen["frames left whose entry is not captured"] += 1
                 return
             self.stretches.event("tick")
@@ -364,7 +302,8 @@ class LabReport:
         if early:
             entered, time, place = early[0]
             row, before = self.lab.captures[place[0]].name, (entered.time - time) / SECOND
-            text = f"it left {before:.6f} s before it entered ({self.lab.captures[entered.place[0]].name}, packet {entered.place[1]}), and so did {len(early) - 1} more"
+            where = f"{self.lab.captures[entered.place[0]].name}, packet {entered.place[1]}"
+            text = f"it left {before:.6f} s before it entered ({where}), and so did {len(early) - 1} more"
             self.findings.tell("early", row, place[1], text, f"give the captures a skew (--skew {row}=SECONDS), or the lab larger clocks")
 
     def show(self) -> None:
@@ -373,15 +312,3 @@ class LabReport:
             return
         self.shown = clock.monotonic()
         sys.stderr.write(f"\r{self.matcher.count} frames entered, {sum(self.judging.judged.values())} floods judged \r")
-
-
-def has_frame_check(row: Row) -> bool:
-    """Whether the first frames of a capture all end in their frame check sequence (IEEE 802.3 clause 3.2.9)."""
-    seen = 0
-    for packet in Reader(row.path, row.name, Findings()).packets():
-        if packet.missing > 0 or len(packet.octets) < 18 or zlib.crc32(packet.octets[:-4]).to_bytes(4, "little") != packet.octets[-4:]:
-            return False
-        seen += 1
-        if seen == FIRST_LOOK:
-            break
-    return seen > 0

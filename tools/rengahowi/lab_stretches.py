@@ -20,7 +20,7 @@ if TYPE_CHECKING:
     from .plan import Plan
 
 # A stretch ends behind this many octets. The program takes 67,108,864, and no frame with its copies has as many as are left.
-MOST = 33_554_432
+MOST = 50_331_648
 PLACES = 1 << 40
 PIECE = 65535
 
@@ -71,8 +71,6 @@ class Stretches:
         # What was said and not yet delivered as whole PDUs, and how many octets of it were delivered.
         self.said: dict[tuple[str, str], list[bytes]] = {}
         self.part: dict[tuple[str, str], int] = {}
-        # Stations that sent a frame in a stretch before, and of which a later one has to know.
-        self.owed: set[tuple[str, str]] = set()
         self.now = Stretch(1)
 
     def event(self, text: str) -> None:
@@ -140,12 +138,13 @@ class Stretches:
     def came(self, service: str, source: str) -> None:
         """A frame of this source has entered."""
         self.now.sources.add((service, source))
-        self.owed.discard((service, source))
 
     def needs(self, service: str, station: str) -> None:
-        """A frame goes to a station that was heard, perhaps in another stretch than this one."""
+        """A frame goes to a station that was heard, of which this stretch has no frame yet: it gets one, which is nobody's."""
         if (service, station) not in self.now.sources:
-            self.owed.add((service, station))
+            self.came(service, station)
+            self.event("tick")
+            self.entry(f"in {self.plan.circuits_of(service)[0]} 0 {BROADCAST.hex()}{station}88b5", (0, 0))
 
     def cut(self) -> None:
         """Ends the stretch where it is long enough, and begins the next one with what stands."""
@@ -180,12 +179,6 @@ class Stretches:
             self.event(f"deliver {a} {b} {self.part[a, b]}")
 
     def finish(self) -> None:
-        """Ends the report, or a stretch of it. Stations that were heard elsewhere are told as those of a frame each."""
-        if self.owed:
-            self.event("tick")
-        for service, station in sorted(self.owed):
-            circuit = next(iter(self.plan.circuits_of(service)))
-            self.entry(f"in {circuit} 0 {BROADCAST.hex()}{station}88b5", (0, 0))
-        self.owed.clear()
+        """Ends the report, or a stretch of it."""
         self.now.end()
         self.done(self.now)

@@ -79,7 +79,11 @@ class LabCaptures:
             kind, ways = self.rng.choice(kinds)
             for way in ways:
                 self.files["port", circuit, way] = CaptureFile(folder / f"{circuit}-{way}.pcap", kind)
-        for a, b in plan.pairs() if links else ():
+        # A capture for each end of each link, or one for all links of an edge.
+        self.by_edge = links and self.rng.random() < 0.3
+        for at in plan.edges if self.by_edge else ():
+            self.files["edge", at, ""] = CaptureFile(folder / f"at-{at}.pcap", self.rng.choice(["pcapng", "classic"]))
+        for a, b in plan.pairs() if links and not self.by_edge else ():
             for at in (a, b):
                 self.files["link", frozenset((a, b)), at] = CaptureFile(folder / f"{a}-{b}-at-{at}.pcap", self.rng.choice(["pcapng", "classic"]))
 
@@ -107,6 +111,8 @@ class LabCaptures:
             row: dict[str, Any] = {"file": file.path.name}
             if kind == "port":
                 row |= {"circuit": name} | ({} if way == "both" else {"direction": way})
+            elif kind == "edge":
+                row |= {"edge": name}
             else:
                 row |= {"link": sorted(name), "at": way}
             rows.append(("capture", row))
@@ -122,7 +128,7 @@ class LabCaptures:
 
     def link(self, sender: str, receiver: str, at: str, octets: bytes) -> None:
         """A packet at an end of a link."""
-        file = self.files.get(("link", frozenset((sender, receiver)), at))
+        file = self.files.get(("edge", at, "") if self.by_edge else ("link", frozenset((sender, receiver)), at))
         if file is not None:
             file.add(self.time, octets, pcapng.OUTBOUND if at == sender else pcapng.INBOUND)
 

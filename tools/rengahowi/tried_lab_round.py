@@ -19,6 +19,7 @@ import tempfile
 if __name__ == "__main__":
     sys.path.insert(0, str(pathlib.Path(__file__).resolve().parent.parent))
 
+from rengahowi import lab_stretches
 from rengahowi.lab_file import read_lab
 from rengahowi.lab_report import LabReport
 from rengahowi.lab_verdict import Auditor, Telling
@@ -33,6 +34,8 @@ if TYPE_CHECKING:
 
 CHANGES = ("taken out", "doubled", "moved")
 TRIES = 12
+# Octets behind which a stretch ends in the trial of stretches.
+SHORT = 3000
 
 
 def audited(plan: pathlib.Path, lines: list[str]) -> str:
@@ -93,8 +96,18 @@ class Round:
             rule, words, _, _ = self.judge(lines, seed, False, True)
             if rule != "yes":
                 self.differ.append(f"{name}, at ports alone: {rule}: {words}")
+        self.try_stretches(name, lines, seed)
         for change in CHANGES:
             self.try_change(name, change, lines, seed, rng)
+
+    def try_stretches(self, name: str, lines: list[str], seed: int) -> None:
+        """The same captures in a report of many short stretches, each of which has to be right."""
+        usual, lab_stretches.MOST = lab_stretches.MOST, SHORT
+        rule, words, _, _ = self.judge(lines, seed, True, seed % 2 == 0)
+        lab_stretches.MOST = usual
+        self.counts["runs in stretches"] += 1
+        if rule != "yes":
+            self.differ.append(f"{name}, in stretches: {rule}: {words}")
 
     def try_change(self, name: str, change: str, lines: list[str], seed: int, rng: random.Random) -> None:
         """A frame that left is changed, one by which the run's own report breaks a rule."""
