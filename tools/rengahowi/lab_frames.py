@@ -128,7 +128,8 @@ class Matcher:
         self.waiting: dict[bytes, list[Any]] = {}
         self.count = 0
         self.repeated: list[Entered] = []
-        self.early: list[tuple[Entered, int, Place]] = []
+        # Causes, by how much each is late, and their effects.
+        self.early: list[tuple[Place, int, Place]] = []
 
     def enter(self, time: int, circuit: str, octets: bytes, place: Place) -> Entered:
         """A frame enters. What was seen of it before, by another clock, is its own."""
@@ -144,16 +145,17 @@ class Matcher:
         others.append(entered)
         for seen in self.waiting.pop(key, ()):
             if isinstance(seen, Leaving):
-                self.note_early(entered, seen.time, seen.place)
+                self.note_early(entered.place, entered.time, seen.time, seen.place)
                 self.give(others, seen)
             else:
+                self.note_early(entered.place, entered.time, seen[0], seen[4])
                 self.cross(key, *seen)
         return entered
 
-    def note_early(self, entered: Entered, time: int, place: Place) -> None:
-        """Something of a frame was seen before the frame itself, by more than the clocks allow."""
-        if time < entered.time - self.lab.clocks:
-            self.early.append((entered, time, place))
+    def note_early(self, cause: Place, time: int, seen: int, place: Place) -> None:
+        """An effect that is seen before its cause, by more than the clocks allow, is kept."""
+        if seen < time - self.lab.clocks:
+            self.early.append((cause, time - seen, place))
 
     def leave(self, time: int, circuit: str, octets: bytes, place: Place) -> tuple[bytes, Leaving] | None:
         """A frame leaves. Answers its key where no frame is open that it is a copy of: it waits for one."""
@@ -199,6 +201,8 @@ class Matcher:
             for one in entered.crossings:
                 if getattr(one, role) is None and one.repeats is None and one.is_as(*way):
                     setattr(one, role, time)
+                    if role == "put" and one.heard is not None:
+                        self.note_early(place, time, one.heard, one.place)
                     return
         fresh = next((one for one in others if not any(crossing.is_as(*way) for crossing in one.crossings)), others[-1])
         if len(fresh.crossings) >= MOST_COPIES:

@@ -300,10 +300,9 @@ class LabReport:
             text = f"{len(repeated)} frames have the octets of one before, so their copies are told apart by their order alone"
             self.findings.tell("repeated", self.lab.captures[first.place[0]].name, first.place[1], text, "give each test frame a number within")
         if early:
-            entered, time, place = early[0]
-            row, before = self.lab.captures[place[0]].name, (entered.time - time) / SECOND
-            where = f"{self.lab.captures[entered.place[0]].name}, packet {entered.place[1]}"
-            text = f"it left {before:.6f} s before it entered ({where}), and so did {len(early) - 1} more"
+            cause, late, place = early[0]
+            row, where = self.lab.captures[place[0]].name, f"{self.lab.captures[cause[0]].name}, packet {cause[1]}"
+            text = f"it is {late / SECOND:.6f} s before what it comes of ({where}), and so are {len(early) - 1} more"
             self.findings.tell("early", row, place[1], text, f"give the captures a skew (--skew {row}=SECONDS), or the lab larger clocks")
 
     def show(self) -> None:

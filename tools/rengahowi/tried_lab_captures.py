@@ -62,8 +62,8 @@ class Talk:
 
 
 class LabCaptures:
-    """Follows the lines of a report, and writes a folder with captures and a LAB.toml. `places` has of each line that is a frame at a port
-    the file and the packet."""
+    """Follows the lines of a report, and writes a folder with captures and a LAB.toml. `places` has of each line that is a frame at a port,
+    or a packet that is put, the file and the packet."""
 
     def __init__(self, plan: Plan, folder: pathlib.Path, seed: int, links: bool = True, table: bool = True) -> None:
         self.plan, self.folder, self.rng, self.links, self.table = plan, folder, random.Random(seed), links, table
@@ -126,11 +126,12 @@ class LabCaptures:
         direction = pcapng.INBOUND if way == "in" else pcapng.OUTBOUND
         self.places[number] = file.path.name, file.add(self.time, bytes.fromhex(octets), direction)
 
-    def link(self, sender: str, receiver: str, at: str, octets: bytes) -> None:
-        """A packet at an end of a link."""
+    def link(self, sender: str, receiver: str, at: str, octets: bytes) -> tuple[str, int]:
+        """A packet at an end of a link. Answers the file and the packet."""
         file = self.files.get(("edge", at, "") if self.by_edge else ("link", frozenset((sender, receiver)), at))
-        if file is not None:
-            file.add(self.time, octets, pcapng.OUTBOUND if at == sender else pcapng.INBOUND)
+        if file is None:
+            return "", 0
+        return file.path.name, file.add(self.time, octets, pcapng.OUTBOUND if at == sender else pcapng.INBOUND)
 
     def segment(self, talk: Talk, sender: str, receiver: str, at: str, place: int, flags: int, octets: bytes = b"") -> None:
         """A segment at an end of a connection, at a place of its sender's stream."""
@@ -168,7 +169,7 @@ class LabCaptures:
         elif kind == "sent":
             octets = bytes.fromhex(rest[7])
             self.packets[rest[0]] = rest[1], rest[2], octets
-            self.mpls(rest[1], rest[2], rest[1], octets)
+            self.places[number] = self.mpls(rest[1], rest[2], rest[1], octets)
         elif kind == "copied" and rest[1] in self.packets:
             self.packets[rest[0]] = self.packets[rest[1]]
         elif kind == "aged":
@@ -185,10 +186,10 @@ class LabCaptures:
         seconds = f"{self.time // 1_000_000}.{self.time % 1_000_000:06}"
         self.log.append(" ".join((seconds, *words)))
 
-    def mpls(self, sender: str, receiver: str, at: str, octets: bytes) -> None:
+    def mpls(self, sender: str, receiver: str, at: str, octets: bytes) -> tuple[str, int]:
         """A packet of a pseudowire at an end of its link."""
         source, target = (self.plan.edges[edge]["address"] for edge in (sender, receiver))
-        self.link(sender, receiver, at, headers.ethernet(source, target, headers.MPLS, octets))
+        return self.link(sender, receiver, at, headers.ethernet(source, target, headers.MPLS, octets))
 
     def connect(self, a: str, b: str) -> None:
         """The handshake, as both ends see it."""

@@ -2,9 +2,9 @@
 """The round trip of `tools/from-lab`, for `tools/check`: python3 tried_lab_round.py SEED COUNT, or FOLDER with scenarios.
 
 Of each run what entered and left at each port and link is written as captures, `from-lab` makes a report of them, and `audit` has to say of
-it what it says of the run's own report. Then one frame that left is taken out, doubled, or moved to another customer's port, in the run's
-own report and in the captures: where the own report breaks a rule by that, so has the other one, with the capture and the packet. Prints
-what differs, and in the end the counts as JSON."""
+it what it says of the run's own report. Then one frame that left is taken out, doubled, or moved to another customer's port, or one is sent
+on from a mesh wire to another one, in the run's own report and in the captures: where the own report breaks a rule by that, so has the other
+one, with the capture and the packet. Prints what differs, and in the end the counts as JSON."""
 
 from __future__ import annotations
 
@@ -97,6 +97,7 @@ class Round:
             if rule != "yes":
                 self.differ.append(f"{name}, at ports alone: {rule}: {words}")
         self.try_stretches(name, lines, seed)
+        self.try_split(name, lines, seed)
         for change in CHANGES:
             self.try_change(name, change, lines, seed, rng)
 
@@ -108,6 +109,18 @@ class Round:
         self.counts["runs in stretches"] += 1
         if rule != "yes":
             self.differ.append(f"{name}, in stretches: {rule}: {words}")
+
+    def try_split(self, name: str, lines: list[str], seed: int) -> None:
+        """A frame that came by a mesh wire is sent on by another one."""
+        found = sent_on(read_plan(self.folder / "plan.toml"), lines)
+        if found is None:
+            return
+        number, changed = found
+        own, (rule, words, _, captures) = audited(self.folder / "plan.toml", changed), self.judge(changed, seed, True, seed % 2 == 0)
+        file, packet = captures.places[number]
+        self.counts[f"sent on: {own}"] += 1
+        if rule != own or f"{file}, packet {packet}," not in words:
+            self.differ.append(f"{name}, sent on: {own}, and that of its captures {rule}, without {file}, packet {packet}: {words}")
 
     def try_change(self, name: str, change: str, lines: list[str], seed: int, rng: random.Random) -> None:
         """A frame that left is changed, one by which the run's own report breaks a rule."""
@@ -138,6 +151,30 @@ def changed_lines(plan: Plan, lines: list[str], number: int, change: str, rng: r
     if change == "moved":
         new = [" ".join([words[0], rng.choice(others), *words[2:]])]
     return counted([*lines[:number], *new, *lines[number + 1 :]])
+
+
+def sent_on(plan: Plan, lines: list[str]) -> tuple[int, list[str]] | None:
+    """The lines of a report with a packet more, by which an edge sends what came by a mesh wire out by another one, and the place of that
+    line; None where no two mesh wires of one service, both without tags, had a packet so."""
+    sent, last = {}, dict[tuple[str, str], str]()
+    for place, line in enumerate(lines):
+        words = line.split(" ")
+        if words[0] == "sent" and words[6] != "0":
+            wire = plan.wires[words[4]]
+            if wire.kind == "mesh" and len(wire.path) == 2 and wire.near["mode"] == "raw" == wire.far["mode"]:
+                sent[words[1]] = words
+                last[words[2], wire.name] = words[8]
+        if words[:2] != [">", "arrive"] or words[2] not in sent:
+            continue
+        _, _, _, edge, came, _, origin, hops, octets = sent[words[2]]
+        for (sender, name), label in last.items():
+            wire = plan.wires[name]
+            if sender == edge and name != came and wire.service == plan.wires[came].service:
+                inner = octets[16 if plan.wires[came].near["control_word"] else 8 :]
+                far = wire.path[wire.path[0] == edge]
+                new = f"sent {10**9} {edge} {far} {name} {came} {origin} {int(hops) + 1} {label[: 16 if wire.near['control_word'] else 8]}{inner}"
+                return place + 1, counted([*lines[: place + 1], new, *lines[place + 1 :]])
+    return None
 
 
 def main() -> int:

@@ -60,7 +60,7 @@ def labs_judged(folder: pathlib.Path, _gone: set[str]) -> Iterator[Any]:
     done = run([DEBIAN, ROUND, str(SEED), str(COUNT)], folder, text=True)
     counts = json.loads(done.stdout.splitlines()[-1]) if done.stdout else {}
     yield compare(f"round trip of captures: {done.stdout}", (done.returncode, counts.get("runs")), (0, COUNT))
-    yield compare("round trip of captures, changes", all(counts.get(key) for key in ("taken out: Once", "doubled: Once", "moved: Isolated")), True)
+    yield compare("round trip of captures, changes", all(counts.get(key) for key in ("taken out: Once", "doubled: Once", "moved: Isolated", "sent on: Split")), True)
     status, said, _ = tool("from-lab", "--audit", TOP / "examples" / "silent-port" / "LAB.toml")
     yield compare(f"the lab of the tour: {said}", (status, said in (TOP / "docs" / "TOUR.md").read_text(encoding="utf-8")), (3, True))
     small = SmallLab(folder / "small")
@@ -121,6 +121,8 @@ class SmallLab:
         yield self.verdict("good", 0, "audit yes", "floods judged: 3 (3 of red)", "not judged: 0")
         status, said, _ = tool("from-lab", self.folder / "LAB.toml")
         yield compare("from-lab, the report", (status, said.count("> frame lyon"), said.splitlines()[-1]), (0, 3, "end events=3 in=3 left=6 sent=0 dropped=0"))
+        status, said, fault = tool("from-lab", self.folder / "LAB.toml", "--junit", "x.xml")
+        yield compare("from-lab --junit without --audit", (status, said, "goes with --audit" in fault, fault.count("\n")), (1, "", True, 1))
         found = self.usual()
         found["rome", "in"] = [(START + 9_000_000, self.frame(9, None))]
         found["lyon", "in"], found["metz", "out"], found["paris", "out"] = [], [], []
@@ -129,8 +131,8 @@ class SmallLab:
         found = self.usual()
         found["metz", "out"] = [(time - 500_000, octets) for time, octets in found["metz", "out"]]
         self.write(found)
-        yield self.verdict("clocks that differ", 0, "metz-out.pcap, packet 1: it left 0.499900 s before it entered (lyon-in.pcap, packet 1)", "--skew metz-out.pcap")
-        yield compare("from-lab, --skew", "it left" in "".join(self.judge("--skew", "metz-out.pcap=0.5")[1:]), False)
+        yield self.verdict("clocks that differ", 0, "metz-out.pcap, packet 1: it is 0.499900 s before what it comes of (lyon-in.pcap, packet 1)", "--skew metz-out.pcap")
+        yield compare("from-lab, --skew", "before what" in "".join(self.judge("--skew", "metz-out.pcap=0.5")[1:]), False)
         found = self.usual()
         found["lyon", "in"][1:1] = [(START + 1_300_000, found["lyon", "in"][0][1])]
         for site in ("metz", "paris"):
