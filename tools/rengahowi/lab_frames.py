@@ -172,17 +172,21 @@ class Matcher:
         return key, leaving
 
     def give(self, others: list[Entered], leaving: Leaving) -> None:
-        """Gives a copy to one of several frames of the same octets: to the first one that has to leave there and has not yet, else to
-        the last one of its service, else to the first one of another service."""
-        circuit = leaving.circuit
-        service = self.inner.service[circuit]
-        own = [one for one in others if self.inner.service[one.circuit] == service]
-        elsewhere = [one for one in own if one.circuit != circuit]
-        found = next((one for one in elsewhere if not one.served(circuit)), None) or (elsewhere or own or others[:1])[-1]
+        """Gives a copy to a frame of the same octets."""
+        found = others[0] if len(others) == 1 else self.chosen(others, leaving.circuit)
         if len(found.leavings) < MOST_COPIES:
             found.leavings.append(leaving)
         else:
             found.left_out += 1
+
+    def chosen(self, others: list[Entered], circuit: str) -> Entered:
+        """Of several frames of the same octets the first one that has to leave at a circuit and has not yet, else the last one of its
+        service, else the first one of another service."""
+        service = self.inner.service[circuit]
+        own = [one for one in others if self.inner.service[one.circuit] == service]
+        elsewhere = [one for one in own if one.circuit != circuit]
+        waits = [one for one in elsewhere if not one.served(circuit)]
+        return waits[0] if waits else (elsewhere or own or others[:1])[-1]
 
     def cross(self, key: bytes, time: int, roles: Iterable[str], way: tuple[str, str, Wire], octets: bytes, place: Place) -> None:
         """A packet with a copy of a frame is seen as it is put, as it is heard, or both."""

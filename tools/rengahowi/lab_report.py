@@ -35,6 +35,7 @@ OWN_TYPES = {b"\x88\xcc", b"\x88\x09", b"\x90\x00"}
 OWN_GROUPS = (bytes.fromhex("01000ccccccc"), bytes.fromhex("01000ccccccd"))
 MOST_PAST = 1_000_000
 LATE = 10
+SHOWN_EVERY = 4096
 
 Item = tuple[int, int, int, str, "Any"]
 
@@ -71,9 +72,14 @@ class LabReport:
         """Reads everything and writes the report."""
         self.steps, self.tables = self.sessions.read(), tables_of(self.lab)
         self.begin()
-        for time, _, _, kind, what in self.merged():
+        for count, (time, _, _, kind, what) in enumerate(self.merged()):
             self.advance(time)
-            self.take(time, kind, what)
+            if kind == "port":
+                self.take_frame(time, *what)
+            else:
+                self.take(time, kind, what)
+            if count % SHOWN_EVERY == 0:
+                self.show()
         self.end()
 
     def begin(self) -> None:
@@ -100,16 +106,13 @@ class LabReport:
         return heapq.merge(steps, tables, *(self.intake.packets(row) for row in self.lab.captures))
 
     def take(self, time: int, kind: str, what: Any) -> None:
-        """Something happens."""
-        if kind == "port":
-            self.take_frame(time, *what)
-        elif kind == "link":
+        """Something else than a frame at a port happens."""
+        if kind == "link":
             self.take_packet(time, *what)
         elif kind == "step":
             self.take_step(time, what)
         else:
             self.take_table(time, *what)
-        self.show()
 
     def take_frame(self, time: int, row: Row, packet: Packet) -> None:
         """A frame at a port."""
@@ -191,6 +194,8 @@ class LabReport:
 
     def advance(self, now: int) -> None:
         """Time goes on: what waited long enough is written."""
+        if not self.held and (not self.queue or self.queue[0][1] == "frame" and self.queue[0][0] + self.wait >= now):
+            return
         while self.held and self.held[0][0] < now:
             _, key, leaving = self.held.popleft()
             past = self.matcher.expire(key, leaving)
