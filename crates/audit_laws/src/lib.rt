@@ -4,7 +4,8 @@
 
 ghost use Rattle.audit_laws.specs.Laws.{ReportsOfRunsGetYes, ReportsOfRunsTellThem, RunsMeetRules};
 
-/// The report of a run of a checked plan tells the trace of the run.
+/// The report of a run of a checked plan tells the trace of the run, where its entries can be read. That they can is a law of `report_laws`,
+/// and of each report of `replay` a clause of the program says the whole.
 pub fn reports_of_runs_tell_them()
     ensures { ReportsOfRunsTellThem }
 {}

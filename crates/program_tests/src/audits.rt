@@ -37,6 +37,31 @@ path = [\"b\", \"c\"]
 pw_id = 2
 ";
 
+// Two core edges and a spoke edge with a spoke to each, and a circuit at the spoke edge and at one core edge.
+const SPOKES: &str =
+    "edge = [{ name = \"a\", address = \"10.0.0.1\" }, { name = \"b\", address = \"10.0.0.2\" }, { name = \"x\", address = \"10.0.0.3\" }]
+service = [{ name = \"s\" }]
+circuit = [{ name = \"cx\", edge = \"x\", service = \"s\" }, { name = \"ca\", edge = \"a\", service = \"s\" }]
+[[wire]]
+name = \"m\"
+service = \"s\"
+class = \"mesh\"
+path = [\"a\", \"b\"]
+pw_id = 1
+[[wire]]
+name = \"u\"
+service = \"s\"
+class = \"spoke\"
+path = [\"x\", \"a\"]
+pw_id = 2
+[[wire]]
+name = \"v\"
+service = \"s\"
+class = \"spoke\"
+path = [\"x\", \"b\"]
+pw_id = 3
+";
+
 const REPORT: &str = "vplsnet 1
 > frame c1 ffffffffffff02000000000188b5aa
 in c1 1 ffffffffffff02000000000188b5aa
@@ -61,8 +86,36 @@ const REFUSED: Case = Case {
     ..AUDIT
 };
 
-static GOOD: [Case; 3] = [
+static GOOD: [Case; 4] = [
     AUDIT,
+    // Both spokes of the spoke edge carry frames, so the service is not calm, and a frame need not leave anywhere.
+    Case {
+        opening: "version = 2\nevents = [",
+        tables: SPOKES,
+        second: Some(
+            "vplsnet 1
+> connect a b
+session a b Initialized
+session b a Initialized
+wire a m up
+wire b m up
+> connect x a
+session x a Initialized
+session a x Initialized
+wire x u up
+wire a u up
+> connect x b
+session x b Initialized
+session b x Initialized
+wire x v up
+wire b v up
+> frame cx ffffffffffff02000000000188b5aa
+in cx 1 ffffffffffff02000000000188b5aa
+end events=4 in=1 left=0 sent=0 dropped=0
+",
+        ),
+        ..AUDIT
+    },
     Case {
         second: Some("vplsnet 1\nend events=0 in=0 left=0 sent=0 dropped=0\n"),
         ..AUDIT
@@ -120,7 +173,35 @@ left c2 1 0 ffffffffffff02000000000188b5aa
 ];
 
 // A rule fails.
-static BROKEN: [Case; 4] = [
+static BROKEN: [Case; 5] = [
+    // One spoke of the spoke edge carries frames, so the service is calm, and a frame has to leave the other circuit.
+    Case {
+        opening: "version = 2\nevents = [",
+        tables: SPOKES,
+        second: Some(
+            "vplsnet 1
+> connect a b
+session a b Initialized
+session b a Initialized
+wire a m up
+wire b m up
+> connect x a
+session x a Initialized
+session a x Initialized
+wire x u up
+wire a u up
+> connect x b
+session x b Initialized
+session b x Initialized
+wire x v up
+> frame cx ffffffffffff02000000000188b5aa
+in cx 1 ffffffffffff02000000000188b5aa
+end events=4 in=1 left=0 sent=0 dropped=0
+",
+        ),
+        told: "vplsnet: audit: 17 Once",
+        ..REFUSED
+    },
     // A frame leaves a circuit of the other service, and not that of its own.
     Case {
         second: Some(

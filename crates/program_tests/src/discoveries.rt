@@ -1,6 +1,6 @@
 //! The command `discover`: scripts over a plan of two edges, and what is refused before.
 
-use crate::around::{Case, REPLAY, Taken, all_play};
+use crate::around::{Case, REPLAY, Taken, all_play, plays};
 
 /// Two edges, a mesh wire and a circuit.
 pub const PLAN: &str =
@@ -239,6 +239,54 @@ static USAGES: [Case; 3] = [
 ];
 
 // A file is not there, a call of the shelf fails, or one of the sink, which took a front before.
+// A scenario of two edges that connect, as a second file.
+const PAIR: &str = "version = 2
+events = []
+edge = [{ name = \"a\", address = \"10.0.0.1\" }, { name = \"b\", address = \"10.0.0.2\" }]
+service = [{ name = \"s\" }]
+[[wire]]
+name = \"w\"
+service = \"s\"
+class = \"mesh\"
+path = [\"a\", \"b\"]
+pw_id = 100
+[[circuit]]
+name = \"c\"
+edge = \"a\"
+service = \"s\"
+";
+
+// A script in the first file. As many copies of one packet are under way as may be, and the line that asks for one more is not done.
+static CROWDED: Case = Case {
+    words: "discover s f",
+    opening: "hello a b 0\nhello b a 0\nbring 1\nbring 2\nopen a b\ndo settle 20\ndo frame c ffffffffffff0200000000010800\n",
+    piece: "do again 1\n",
+    times: 65_536,
+    closing: "",
+    tables: "",
+    second: Some(PAIR),
+    room: 8_000_000,
+    status: 7,
+    taken: Taken::Ends("copied 65536 1\n", "stop Crowded 65536\n"),
+    told: "vplsnet: stopped: Crowded 65536 65542",
+    ..DISCOVER
+};
+
+// A script of 8,388,609 octets.
+static LONG: Case = Case {
+    words: "discover s f",
+    opening: "",
+    piece: "tick\nbring 9\nhello a b 0\nbring 1\n",
+    times: 254_200,
+    back: "bring 10\n",
+    closing: "",
+    tables: "",
+    second: Some(PAIR),
+    status: 5,
+    told: "vplsnet: f is longer than 8388608",
+    ..DISCOVER
+};
+
 static FAILED: [Case; 4] = [
     Case {
         second: None,
@@ -271,6 +319,16 @@ static FAILED: [Case; 4] = [
 #[test]
 fn reports_scripts(rt: HostRuntime) {
     all_play(&rt, rt.alloc(), DONE.as_slice());
+}
+
+#[test]
+fn stops_a_script_at_a_limit(rt: HostRuntime) {
+    plays(&rt, rt.alloc(), &CROWDED);
+}
+
+#[test]
+fn refuses_a_script_that_is_too_long(rt: HostRuntime) {
+    plays(&rt, rt.alloc(), &LONG);
 }
 
 #[test]

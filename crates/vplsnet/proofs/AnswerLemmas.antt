@@ -21,7 +21,7 @@ use Rattle.vplsnet.specs.declared.audit_rule.AuditRule.{AuditRule}
 use Rattle.vplsnet.specs.declared.audit_rule.AuditRule.TheVariants as rule
 use Rattle.vplsnet.specs.declared.outcome.Outcome.{Outcome}
 use Rattle.vplsnet.specs.declared.outcome.Outcome.TheVariants.{Done, Usage, ReadFault, WriteFault, TooLong, ScenarioRefused, NoCircuit, CaptureRefused, ScriptRefused, AuditRefused, Stopped, DecodeRefused, Unfinished, NoMemory}
-use Rattle.vplsnet.specs.Answers.{CallsFor, Completes, Finishes, IsCutShort, IsEndOf, IsJudged, IsMade, IsRefused, IsSoundFile, IsSoundOutcome, IsTooLong, IsWholeTaken, MakesAnswer, MakesRun, SaysOutcome, run_text}
+use Rattle.vplsnet.specs.Answers.{CallsFor, Completes, Finishes, IsCutShort, IsEndOf, IsJudged, IsMade, IsRefused, IsSoundFile, IsSoundOutcome, IsTooLong, IsWholeTaken, MakesAnswer, MakesRun, PassesIfReport, SaysOutcome, run_text}
 use Rattle.vplsnet.specs.Around.{Files, Around, HasWriteFault, IsUntouched, Has, TellsFile}
 use Rattle.vplsnet.specs.Asked.{Asked, Replay, Tables, Capture, Decode, Rehearse, Migrate, Discover, Switchover, Audit}
 use Rattle.vplsnet.specs.Audit.{stop_of}
@@ -35,6 +35,7 @@ use Rattle.vplsnet.specs.RunOver.{outcome_by, run_of}
 use Rattle.vplsnet.specs.ScenarioRun.{IsScenarioRun, whole_run}
 use Rattle.vplsnet.specs.StreamText.{largest_pdu, outcome_of_ending}
 use Rattle.vplsnet.specs.Writing.{EndsMigration, EndsRun, EndsStream, EndsText, GivesUp, WritesNone}
+use Rattle.vplsnet.proofs.ReportLemmas.{passes_by}
 use Rattle.vplsnet.proofs.ScenarioFileLemmas.{refused_first}
 
 -- ---- what the stages say is an answer
@@ -137,16 +138,21 @@ text_answers around asked text left made network outcome own is (inr (inr none))
 
 -- a run is made of its scenario
 run_made : (asked : Asked) (scenario : Scenario) (captures : List (List (List ℕ))) (left : NetLists) (reason : Option NetStop) → IsScenarioRun scenario captures left reason
+    → PassesIfReport asked scenario.plan (run_text asked left reason)
     → MakesRun asked scenario captures (run_text asked left reason) (Some left) (outcome_by reason)
-run_made asked scenario captures left None run = record { left = left; network_is = refl; is_run = run; text_is = refl }
-run_made asked scenario captures left (Some reason) run = record { left = left; network_is = refl; is_run = run; text_is = refl }
+run_made asked scenario captures left None run passes = record { left = left; network_is = refl; is_run = run; text_is = refl; passes = passes }
+run_made asked scenario captures left (Some reason) run passes = record { left = left; network_is = refl; is_run = run; text_is = refl; passes = passes }
 
 pub run_answers : (around : Around) (asked : Asked) (scenario : Scenario) (captures : List (List (List ℕ))) (network : Option NetLists) (outcome : Outcome)
     → ComesTo (Has around.files) asked (Works (Run scenario captures))
     → EndsRun scenario captures asked (lines_written around.taken_before around.sink_before []) (lines_written around.taken_after around.sink_after []) network outcome → SaysOutcome around asked network outcome
 run_answers around asked scenario captures network outcome come (inl run) =
     text_answers around asked (run_text asked run.left run.reason) (Some run.left) (outcome_by run.reason) network outcome (run_own run.reason)
-    (record { work = Run scenario captures; come = come; makes = run_made asked scenario captures run.left run.reason run.is_run }) run.ends
+    (record {
+      work = Run scenario captures;
+      come = come;
+      makes = run_made asked scenario captures run.left run.reason run.is_run (passes_by around.files asked scenario captures run.left run.reason come run.is_run run.typed);
+    }) run.ends
 run_answers around asked scenario captures network outcome come (inr none) = none_answers around asked network outcome none
 
 -- a stream's file was not had
@@ -282,7 +288,7 @@ one_behind : (file : Next) (IsNextOfIt : List ℕ → Next → Type 0) → ((oct
 one_behind file IsNextOfIt one [] next other a b = a ∙ sym b
 one_behind file IsNextOfIt one (octets ∷ read) next other a b = one octets next other a b
 
-one_next : (asked : Asked) (read : List (List ℕ)) (next other : Next) → IsNextInput asked read next → IsNextInput asked read other → next ≡ other
+pub one_next : (asked : Asked) (read : List (List ℕ)) (next other : Next) → IsNextInput asked read next → IsNextInput asked read other → next ≡ other
 one_next (Replay file) [] next other a b = a ∙ sym b
 one_next (Replay file) (octets ∷ read) next other a b = one_read (Replay file) (document octets) read next other a b
 one_next (Tables file) [] next other a b = a ∙ sym b

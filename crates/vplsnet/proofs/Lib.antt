@@ -5,8 +5,10 @@ pub mod CaptureLemmas
 pub mod FaultLemmas
 pub mod DiscoverLemmas
 pub mod FileLemmas
+pub mod OneTextLemmas
 pub mod PlanFileLemmas
 pub mod ReadLemmas
+pub mod ReportLemmas
 pub mod RunLemmas
 pub mod ScenarioFileLemmas
 pub mod ScriptFileLemmas

@@ -28,6 +28,9 @@ use Rattle.address_laws.proofs.KnownLemmas.{runs_reach_known}
 use Rattle.address_laws.proofs.PointsLemmas.{runs_keep_points}
 use Rattle.move_laws.proofs.HealLemmas.{runs_heal_moves}
 use Rattle.settle_laws.proofs.RunLemmas.{deliveries_keep_choice, deliveries_keep_sound, runs_carry_sound, runs_come_to_calm, runs_rest_quiet, runs_settle_calm}
+use Rattle.report_laws.proofs.RunLemmas.{runs_tell}
+use Rattle.seen_laws.proofs.CalmLemmas.{run_calm}
+use Rattle.seen_laws.proofs.SourceLemmas.{runs_seen_once}
 use Rattle.psn_net.specs.declared.net_stop.NetStop.{NetStop}
 use Rattle.psn_net.specs.Lists.{NetLists, network_seen}
 use Rattle.psn_net.specs.Runs.{AreDone, IsRunOf}
@@ -83,6 +86,9 @@ promises_kept plan events run = record {
   labels = λ before after joined. runs_keep_label_rule plan before (first before after joined);
   contents = λ before after joined. runs_keep_told_rule plan before (first before after joined);
   endings = runs_end_well plan events run;
+  told = runs_tell plan events run;
+  seen_calm = λ before after joined service. run_calm plan before service (first before after joined);
+  seen_once = runs_seen_once plan events run;
 }
   where
     first : (before after : List Event) → events ≡ before ++ after → IsRun plan before

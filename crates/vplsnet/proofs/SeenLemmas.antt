@@ -6,8 +6,10 @@ use Rattle.std.proofs.lemmas.List.{get_or_default}
 use Rattle.std.specs.List.{All}
 use Rattle.net_base.specs.declared.plan.edge_plan.EdgePlan.{EdgePlan}
 use Rattle.net_base.specs.declared.plan.wire_plan.WirePlan.{WirePlan}
+use Rattle.net_base.specs.declared.trace.entry.Entry.{Entry}
 use Rattle.session_core.specs.Laws.{IsAddress}
 use Rattle.flight_laws.specs.Ends.{AreFieldOffers}
+use Rattle.report_laws.specs.Types.{IsTypedEntry}
 
 -- so many of the items are seen to be so
 pub record AreSeen {X : Type 0} (P : X → Type 0) (items : List X) (count : ℕ) : Type 0 where
@@ -59,3 +61,16 @@ pub all_offers : (wires : List WirePlan) (count : ℕ) → length wires ≤ coun
 all_offers wires count whole seen = all_seen AreFieldOffers wires count whole seen
 
 pub ruleset offer_steps = (no_offers, one_offers, all_offers)
+
+-- ---- entries
+
+pub no_entries : (entries : List Entry) → AreSeen IsTypedEntry entries 0
+no_entries entries = none_seen IsTypedEntry entries
+
+pub one_entry : (entries : List Entry) (count : ℕ) (told : Entry) → AreSeen IsTypedEntry entries count → IsTypedEntry (slice_index_or entries count told) → AreSeen IsTypedEntry entries (count + 1)
+one_entry entries count told seen here = one_seen IsTypedEntry entries count told seen here
+
+pub all_entries : (entries : List Entry) (count : ℕ) → length entries ≤ count → AreSeen IsTypedEntry entries count → All IsTypedEntry entries
+all_entries entries count whole seen = all_seen IsTypedEntry entries count whole seen
+
+pub ruleset entry_steps = (no_entries, one_entry, all_entries)

@@ -1,9 +1,11 @@
 -- How the writing of a text ends.
-use Rattle.std.proofs.Common.{◌≡◌, ℕ, List, [], Option, Some, None, inl, inr, refl, subst}
+use Rattle.std.proofs.Common.{◌≡◌, ◌<◌, ◌^◌, ℕ, List, [], Option, Some, None, length, inl, inr, refl, subst}
+use Rattle.std.specs.List.{All}
 use Rattle.net_base.specs.outside.Outside.{Rose}
 use Rattle.migration.specs.Law.{IsMigrated}
 use Rattle.psn_net.specs.declared.net_stop.NetStop.{NetStop}
 use Rattle.psn_net.specs.Lists.{NetLists}
+use Rattle.report_laws.specs.Types.{IsTypedEntry}
 use Rattle.scenario_text.specs.declared.scenario.Scenario.{Scenario}
 use Rattle.text_lines.specs.Written.{Written, AppendsFront, WritingGoesOn, IsCut, Writes}
 use Rattle.text_lines.proofs.WrittenLemmas.{cut_text, whole_text}
@@ -14,6 +16,7 @@ use Rattle.vplsnet.specs.Asked.{Asked}
 use Rattle.vplsnet.specs.RunOver.{outcome_by}
 use Rattle.vplsnet.specs.ScenarioRun.{IsScenarioRun}
 use Rattle.vplsnet.specs.Writing.{EndsMigration, EndsRun, EndsText}
+use Rattle.vplsnet.proofs.ReportLemmas.{typed_trace}
 use Rattle.vplsnet.proofs.StreamLemmas.{cut_behind}
 
 -- ---- a text that was put, and then what waits is written
@@ -67,9 +70,11 @@ pub ruleset migrated_steps = (migrated_whole, migrated_front, migrated_none)
 
 -- that of a run
 pub ends_run : (scenario : Scenario) (captures : List (List (List ℕ))) (asked : Asked) (left : NetLists) (reason : Option NetStop) (old now : Written) (network : Option NetLists) (outcome : Outcome)
-    → IsScenarioRun scenario captures left reason → EndsText (run_text asked left reason) (Some left) (outcome_by reason) old now network outcome
+    → IsScenarioRun scenario captures left reason → All IsTypedEntry left.trace → length left.trace < 2 ^ 64
+    → EndsText (run_text asked left reason) (Some left) (outcome_by reason) old now network outcome
     → EndsRun scenario captures asked old now network outcome
-ends_run scenario captures asked left reason old now network outcome is ends = inl (record { left = left; reason = reason; is_run = is; ends = ends })
+ends_run scenario captures asked left reason old now network outcome is typed few ends =
+    inl (record { left = left; reason = reason; is_run = is; typed = typed_trace scenario captures left reason is typed few; ends = ends })
 
 pub ends_no_run : (scenario : Scenario) (captures : List (List (List ℕ))) (asked : Asked) (old now : Written) (network : Option NetLists) (outcome : Outcome) → outcome ≡ NoMemory
     → network ≡ None → now.taken ≡ old.taken

@@ -43,12 +43,25 @@ run_text (Discover file script) left reason = []
 run_text (Switchover file script) left reason = []
 run_text (Audit file report) left reason = []
 
+-- a report meets all rules of `audit`: of its octets, with the plan of this scenario, that calls for a yes
+abbrev pub PassesIfReport : Asked → Plan → List ℕ → Type 0
+PassesIfReport (Replay file) plan text = IsGoodReport plan text
+PassesIfReport (Tables file) plan text = Unit {0}
+PassesIfReport (Capture file circuit) plan text = Unit {0}
+PassesIfReport (Rehearse seed) plan text = Unit {0}
+PassesIfReport (Decode file) plan text = Unit {0}
+PassesIfReport (Migrate file) plan text = Unit {0}
+PassesIfReport (Discover file script) plan text = Unit {0}
+PassesIfReport (Switchover file script) plan text = Unit {0}
+PassesIfReport (Audit file report) plan text = Unit {0}
+
 -- the text and the network of a run
 pub record TellsRun (asked : Asked) (scenario : Scenario) (captures : List (List (List ℕ))) (text : List ℕ) (network : Option NetLists) (reason : Option NetStop) : Type 0 where
   pub left : NetLists
   pub network_is : network ≡ Some left
   pub is_run : IsScenarioRun scenario captures left reason
   pub text_is : text ≡ run_text asked left reason
+  pub passes : PassesIfReport asked scenario.plan text
 
 -- the text, the network after the run and the outcome that a command makes of its work
 abbrev pub MakesRun : Asked → Scenario → List (List (List ℕ)) → List ℕ → Option NetLists → Outcome → Type 0

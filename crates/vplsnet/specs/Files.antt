@@ -36,9 +36,11 @@ pub record ShelfState : Type 0 where
   pub faults : ℕ
   pub reads : List ReadCall
 
--- what a sink over a writer tells: what the writer took, where that tells it, and how many calls failed
+-- what a sink over a writer tells: the octets that the writer said it took, what the writer has, where that tells it, and how many calls
+-- failed
 pub record SinkState : Type 0 where
-  pub taken : Option (List ℕ)
+  pub taken : List ℕ
+  pub contents : Option (List ℕ)
   pub faults : ℕ
 
 -- a count after a call: one more where it failed

@@ -12,6 +12,7 @@ pub mod Files
 pub mod Finish
 pub mod Inputs
 pub mod Migrate
+pub mod OneText
 pub mod PlanFile
 pub mod Promises
 pub mod Reads

@@ -1,5 +1,6 @@
 -- What holds of the run of an accepted scenario.
 use Rattle.std.specs.Prelude.{◌≡◌, ◌++◌, nat_eq, ℕ, true, false, List, Some}
+use Rattle.std.specs.List.{AllByRecursion}
 use Rattle.net_base.specs.declared.plan.Plan.{Plan}
 use Rattle.net_base.specs.declared.plan.places.EdgeId.{EdgeId}
 use Rattle.net_base.specs.declared.plan.places.ServiceId.{ServiceId}
@@ -13,7 +14,7 @@ use Rattle.net_base.specs.plan.Roles.{are_joined_by}
 use Rattle.net_base.specs.trace.Isolated.{Isolated}
 use Rattle.net_base.specs.trace.Split.{Split}
 use Rattle.network_model.specs.declared.packet.Packet.{Packet}
-use Rattle.network_model.specs.Calm.{is_quiet}
+use Rattle.network_model.specs.Calm.{is_calm, is_quiet}
 use Rattle.network_model.specs.KnownOnce.{KnownOnce}
 use Rattle.network_model.specs.OnceEach.{OnceEach}
 use Rattle.network_model.specs.Packet.{packet_at}
@@ -32,6 +33,10 @@ use Rattle.flood_laws.specs.Shares.{SharesEach}
 use Rattle.flood_laws.specs.SharesReached.{SharesReachedEach}
 use Rattle.address_laws.specs.Laws.{KnownAreReached, PointsLast}
 use Rattle.move_laws.specs.Laws.{MovesHeal}
+use Rattle.report_laws.specs.Places.{IsEntryOf}
+use Rattle.seen_network.specs.Calm.{is_seen_calm}
+use Rattle.seen_network.specs.Once.{OnceSeen}
+use Rattle.seen_network.specs.Seen.{seen_in}
 use Rattle.settle_laws.specs.Laws.{CarriesWhereSound, ComesToCalm, IsCalmWhereSound, IsQuietAtRest, KeepsSound, KeepsSoundChoice}
 use Rattle.flight_laws.specs.Laws.{AgreesAfterFlight, AreSettled, BothStand, FollowsTable, IsStillBetween, IsUp, KeepsLabelRule, KeepsToldRule, network_after}
 
@@ -78,6 +83,10 @@ KeepEchoesApart plan network = (number : ℕ) (packet : Packet) → packet_at ne
 -- deliveries end no connection: two ends that stand do so after each one
 abbrev pub StandThroughDeliveries : Plan → NetworkState → Type 0
 StandThroughDeliveries plan network = (from to : EdgeId) (count a b : ℕ) → BothStand network a b → BothStand (step plan network (Deliver from to count)).state a b
+
+-- a service is seen calm in what is told exactly where it is calm
+abbrev pub ShowsCalm : Plan → List Event → Type 0
+ShowsCalm plan events = (service : ServiceId) → is_seen_calm plan (seen_in (run plan events).entries) service ≡ is_calm plan (network_after plan events) service
 
 -- what holds of every run of a scenario
 pub record KeepsPromises (plan : Plan) (events : List Event) : Type 0 where
@@ -149,3 +158,9 @@ pub record KeepsPromises (plan : Plan) (events : List Event) : Type 0 where
   pub contents : Throughout (KeepsToldRule plan) plan events
   -- no session ends because an edge refuses what another one says
   pub endings : TellGoodEnds (run plan events).entries
+  -- all that is told speaks of rows of the plan
+  pub told : AllByRecursion (IsEntryOf plan) (run plan events).entries
+  -- the entries alone show which services are calm, and that each frame which is seen to enter one and to be flooded there leaves once at each
+  -- other site, within twelve segments
+  pub seen_calm : AtEachMoment (ShowsCalm plan) events
+  pub seen_once : OnceSeen 12 plan (run plan events).entries

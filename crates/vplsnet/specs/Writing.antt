@@ -7,6 +7,7 @@ use Rattle.discovery_script.specs.declared.script_line.ScriptLine.{ScriptLine}
 use Rattle.migration.specs.Law.{IsMigrated}
 use Rattle.psn_net.specs.declared.net_stop.NetStop.{NetStop}
 use Rattle.psn_net.specs.Lists.{NetLists}
+use Rattle.report_laws.specs.Laws.{IsTypedTrace}
 use Rattle.scenario_text.specs.declared.scenario.Scenario.{Scenario}
 use Rattle.switchover_model.specs.declared.switch_line.SwitchLine.{SwitchLine}
 use Rattle.switchover_text.specs.Text.{switchover_report}
@@ -20,6 +21,7 @@ use Rattle.vplsnet.specs.Asked.{Asked, Replay, Tables, Capture, Decode, Rehearse
 use Rattle.vplsnet.specs.Audit.{stop_of, yes}
 use Rattle.vplsnet.specs.Decode.{AppendsPart, IsDecoding}
 use Rattle.vplsnet.specs.Discover.{IsDiscoveryRun, discovery_text}
+use Rattle.vplsnet.specs.Replay.{ending_by}
 use Rattle.vplsnet.specs.RunOver.{outcome_by}
 use Rattle.vplsnet.specs.ScenarioRun.{IsScenarioRun}
 use Rattle.vplsnet.specs.Switchover.{AgreesBehindEach}
@@ -48,11 +50,12 @@ abbrev pub EndsText : List ℕ → Option NetLists → Outcome → Written → W
 EndsText text left made old now network outcome =
     WritesWhole text left made old now network outcome ⊎ WritesFront text left old now network outcome ⊎ WritesNone old now network outcome
 
--- the run of a scenario, of which the command's text is written
+-- the run of a scenario, of which the command's text is written, and what the types of its entries say of them
 pub record TellsRunOf (scenario : Scenario) (captures : List (List (List ℕ))) (asked : Asked) (old now : Written) (network : Option NetLists) (outcome : Outcome) : Type 0 where
   pub left : NetLists
   pub reason : Option NetStop
   pub is_run : IsScenarioRun scenario captures left reason
+  pub typed : IsTypedTrace left.trace (ending_by reason)
   pub ends : EndsText (run_text asked left reason) (Some left) (outcome_by reason) old now network outcome
 
 -- the same, or memory was refused before

@@ -18,6 +18,7 @@ use crate::run_text::put_run;
 use crate::scenario_file::scenario_of;
 use crate::scenario_run::{outcome_of, run_scenario};
 use crate::switchover::switchover_files;
+use crate::types::see_entries;
 use crate::work::Work;
 use net_base::{List, NoMemory, Shelf, Sink};
 use rehearsal::rehearsal;
@@ -154,6 +155,7 @@ fn finish_work<K: Sink>(alloc: Global, request: Request<'_>, work: Work, sink: &
         Ok(run) => run,
         Err(NoMemory) => return Finish::without_run(Outcome::NoMemory),
     };
+    see_entries(&run.network);
     match put_run(&mut page, sink, &mut sorting, request, &run) {
         Ok(()) => {}
         Err(_) => return Finish::after_run(Outcome::WriteFault, Some(run.network)),
