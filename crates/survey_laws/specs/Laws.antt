@@ -17,13 +17,13 @@ use Rattle.survey_laws.specs.Faults.{all_take_or_pass, faults_by, is_circuit_tak
 use Rattle.survey_laws.specs.Would.{would_serve, would_sound}
 
 -- what faults leave of a network, exactly
-pub record AreExact (plan : Plan) (ground now : NetworkState) (faults : List Fault) : Type 0 where
+pub record AreExact (plan : Plan) (before now : NetworkState) (faults : List Fault) : Type 0 where
   -- each wire is sound where it was, and no fault takes it
-  pub sound : (wire : WireId) (row : WirePlan) → wire_row plan wire ≡ Some row → is_sound now wire.0 row ≡ would_sound ground faults wire.0 row
+  pub sound : (wire : WireId) (row : WirePlan) → wire_row plan wire ≡ Some row → is_sound now wire.0 row ≡ would_sound before faults wire.0 row
   -- each spoke has the last number that was set, at its spoke edge
-  pub numbers : (edge : ℕ) (wire : WireId) → is_spoke_end_of edge (wire_row plan wire) ≡ true → (now.edges edge).priority wire.0 ≡ number_after wire.0 faults ((ground.edges edge).priority wire.0)
+  pub numbers : (edge : ℕ) (wire : WireId) → is_spoke_end_of edge (wire_row plan wire) ≡ true → (now.edges edge).priority wire.0 ≡ number_after wire.0 faults ((before.edges edge).priority wire.0)
   -- each circuit is on where it was, and no fault takes it
-  pub circuits : (circuit : CircuitId) → is_circuit_on plan now circuit ≡ (is_circuit_on plan ground circuit && not (is_circuit_taken faults circuit.0))
+  pub circuits : (circuit : CircuitId) → is_circuit_on plan now circuit ≡ (is_circuit_on plan before circuit && not (is_circuit_taken faults circuit.0))
 
 -- Faults are exact: events that take something or pass by leave the same whatever the state in which they come, be they applied or
 -- idle, and in the midst of deliveries, frames and packets
@@ -39,10 +39,10 @@ pub record TakeTheSame (plan : Plan) (one other : List Fault) : Type 0 where
 
 -- so one row holds of every order of the events, and of every event that makes the fault
 abbrev pub SameFaults : Type 0
-SameFaults = (plan : Plan) (ground : NetworkState) (one other : List Fault) → TakeTheSame plan one other → (service : ServiceId) (sender circuit : CircuitId)
-    → would_serve plan ground one service sender circuit ≡ would_serve plan ground other service sender circuit
+SameFaults = (plan : Plan) (before : NetworkState) (one other : List Fault) → TakeTheSame plan one other → (service : ServiceId) (sender circuit : CircuitId)
+    → would_serve plan before one service sender circuit ≡ would_serve plan before other service sender circuit
 
 -- a circuit that goes off takes itself alone
 abbrev pub CircuitAlone : Type 0
-CircuitAlone = (plan : Plan) (ground : NetworkState) (faults : List Fault) (lost : CircuitId) (service : ServiceId) (sender circuit : CircuitId)
-    → would_serve plan ground (fault.Circuit lost ∷ faults) service sender circuit ≡ (would_serve plan ground faults service sender circuit && not (circuit.0 == lost.0))
+CircuitAlone = (plan : Plan) (before : NetworkState) (faults : List Fault) (lost : CircuitId) (service : ServiceId) (sender circuit : CircuitId)
+    → would_serve plan before (fault.Circuit lost ∷ faults) service sender circuit ≡ (would_serve plan before faults service sender circuit && not (circuit.0 == lost.0))
