@@ -1,6 +1,10 @@
+mod Examples
 pub mod ExactLemmas
 pub mod FaultLemmas
+pub mod FloodLemmas
+pub mod HomeLemmas
 pub mod PassLemmas
+pub mod RestLemmas
 pub mod SameLemmas
 pub mod SettingLemmas
 pub mod SoundLemmas

@@ -1,5 +1,5 @@
 //! What holds of faults in every run of the network.
-ghost use Rattle.survey_laws.specs.Laws.{CircuitAlone, FaultsAreExact, SameFaults};
+ghost use Rattle.survey_laws.specs.Laws.{CircuitAlone, FaultsAreExact, FloodsAsSurveyed, RestsAsSurveyed, SameFaults};
 
 /// Events that take something, a connection, a wire, an edge, the number of a spoke or a circuit, leave of the network exactly what their
 /// faults leave: in whatever state they come, be they applied or idle, in whatever order, and with whatever deliveries, frames, packets
@@ -7,6 +7,19 @@ ghost use Rattle.survey_laws.specs.Laws.{CircuitAlone, FaultsAreExact, SameFault
 #[tactic(auto, using(crate::proofs::FaultLemmas::faults_are_exact))]
 pub fn faults_are_exact()
     ensures { FaultsAreExact }
+{}
+
+/// Once nothing is on its way behind such events, and no end of the service is idle for want of a label, whom a flooded frame reaches is
+/// decided by the state before them and by their faults.
+#[tactic(auto, using(crate::proofs::RestLemmas::rests_as_surveyed))]
+pub fn rests_as_surveyed()
+    ensures { RestsAsSurveyed }
+{}
+
+/// A well-formed flooded frame that enters then, and of which no copy is lost or repeated, leaves exactly once at each circuit that is so
+/// decided, and at no other one, within twelve segments (RFC 4762 sections 4.4 and 10).
+pub fn floods_as_surveyed()
+    ensures { FloodsAsSurveyed }
 {}
 
 /// Faults that take the same wires and circuits, and set the same numbers, decide the same: in whatever order, however often, and by

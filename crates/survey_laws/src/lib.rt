@@ -6,4 +6,6 @@ mod fault;
 mod laws;
 
 pub use fault::Fault;
-pub use laws::{circuit_alone, faults_are_exact, same_faults};
+pub use laws::{
+    circuit_alone, faults_are_exact, floods_as_surveyed, rests_as_surveyed, same_faults,
+};
