@@ -1,0 +1,243 @@
+"""A run as steps: what is so before the first event, and what each event changes of it. No state is told twice, so a run of many events
+stays small, and who follows the steps forward knows how to go back.
+
+What may change is a cell, which has a name of a few words, and its value is a text, empty where there is nothing:
+
+- `session A B`: what edge A says of its session with B
+- `end E W`: what edge E says of its end of wire W
+- `circuit C`: on or off
+- `octets A B`: how many octets of LDP are on their way from A to B
+- `packet N`: edge, edge, wire, wire of arrival and frame of a packet that is under way
+- `mac S E ADDRESS`: the port behind which edge E has learned an address of service S, and the tick
+- `calm S`: calm or not
+- `adjacency A B`: what A says of the Hellos of B, in a report of `discover`
+- `tick`: how many there were
+"""
+
+from __future__ import annotations
+
+from .learned import Learned
+from .network import UP, network_of
+from .report import ALWAYS
+
+TYPE_CHECKING = False
+if TYPE_CHECKING:
+    from typing import Any
+
+    from .network import Network
+    from .plan import Plan
+    from .report import Report
+
+# A copy that is dropped for this cause was made by a bridge, which has learned before.
+BEHIND_THE_BRIDGE = "LinkFault"
+OF_LDP = ("connect", "deliver", "lose", "restart")
+
+
+class Steps:
+    """The cells, their values, and the changes of each event: those of event N stand from `begins[N]` up to `begins[N + 1]`; those
+    before the first event are of event 0."""
+
+    def __init__(self) -> None:
+        self.cells: dict[str, int] = {}
+        self.values: dict[str, int] = {"": 0}
+        self.begins: list[int] = [0]
+        self.changed: list[int] = []
+        self.to: list[int] = []
+        self.now: dict[int, int] = {}
+
+    def put(self, name: str, text: str) -> None:
+        """A cell has this value from here on."""
+        cell = self.cells.setdefault(name, len(self.cells))
+        value = self.values.setdefault(text, len(self.values))
+        if self.now.get(cell, 0) != value:
+            self.now[cell] = value
+            self.changed.append(cell)
+            self.to.append(value)
+
+    def end_event(self) -> None:
+        """The changes from here on are those of the next event."""
+        self.begins.append(len(self.changed))
+
+    def data(self) -> dict[str, Any]:
+        """All of it, ready for JSON: how many changes each event has, and not where they begin."""
+        counts = [after - before for before, after in zip(self.begins, self.begins[1:])]
+        return {"cells": list(self.cells), "values": list(self.values), "counts": counts, "changed": self.changed, "to": self.to}
+
+
+class Follower:
+    """Follows a report and writes down what each event changes."""
+
+    def __init__(self, plan: Plan, report: Report) -> None:
+        self.plan, self.report, self.steps = plan, report, Steps()
+        self.network: Network = network_of(plan, report.rows)
+        self.learned = Learned(plan)
+        # By a tick what may be forgotten then: the service, the edge, the address, and since when it was known.
+        self.old: dict[int, list[tuple[str, str, str, int]]] = {}
+        self.sources: dict[str, str] = {}  # of each frame
+        # What a bridge hears by the event that is followed, unless that drops it: service, edge, address, port.
+        self.hears: tuple[str, str, str, str] | None = None
+        self.touched: set[tuple[str, str]] = set()  # ways of which octets were put or taken
+
+    def follow(self) -> Steps:
+        """Follows all lines."""
+        self.put_all()
+        rows = [*self.report.rows, [""]]
+        for place, row in enumerate(rows[:-1]):
+            if row[0] == ">":
+                self.end_event()
+                is_told = rows[place + 1][0] == "idle" and row[1] not in ALWAYS
+                if not self.network.is_idle(is_told, row[1], row[2:]):
+                    self.begin(row[1], row[2:])
+            else:
+                self.take(row)
+        self.end_event()
+        return self.steps
+
+    def put_all(self) -> None:
+        """What is so before the first event."""
+        for a, b in self.network.sessions:
+            self.steps.put(f"session {a} {b}", self.network.sessions[a, b])
+        for (edge, wire), state in self.network.ends.items():
+            self.steps.put(f"end {edge} {wire}", state)
+        for circuit in self.plan.circuits:
+            self.steps.put(f"circuit {circuit}", "on")
+        self.put_calm()
+
+    def begin(self, kind: str, words: list[str]) -> None:
+        """What an event does that applies."""
+        sent = self.network.packets.get(words[0]) if kind == "arrive" else None
+        self.network.apply(kind, words)
+        if kind in OF_LDP:
+            self.touch(kind, words)
+        if kind == "deliver":
+            self.withdraw(words)
+        elif kind == "restart":
+            self.restart(words[0])
+        elif kind == "tick":
+            self.tick()
+        elif kind in ("arrive", "drop"):
+            self.steps.put(f"packet {words[0]}", "")
+            if sent is not None and sent[4] in self.sources and sent[1] in self.plan.wires[sent[2]].ends():
+                self.hears = self.plan.wires[sent[2]].service, sent[1], self.sources[sent[4]], sent[2]
+        elif kind == "circuit":
+            self.steps.put(f"circuit {words[0]}", words[1])
+            if words[1] == "off":
+                row = self.plan.circuits[words[0]]
+                self.forget(row["service"], row["edge"], words[0])
+
+    def touch(self, kind: str, words: list[str]) -> None:
+        """The connections of which an event puts or takes octets, or whose sessions may change by it."""
+        if kind == "restart":
+            self.touched.update(way for way in self.network.pipes if words[0] in way)
+            return
+        for way in ((words[0], words[1]), (words[1], words[0])):
+            if way in self.network.pipes:
+                self.touched.add(way)
+                self.steps.put(f"session {way[0]} {way[1]}", self.network.sessions[way])
+
+    def take(self, row: list[str]) -> None:
+        """What a line tells."""
+        kind, *words = row
+        self.network.tell(kind, words)
+        if kind == "said":
+            self.touched.add((words[0], words[1]))
+        elif kind == "session":
+            self.steps.put(f"session {words[0]} {words[1]}", words[2])
+            self.touched.update(((words[0], words[1]), (words[1], words[0])))
+        elif kind == "wire":
+            self.steps.put(f"end {words[0]} {words[1]}", words[2])
+            if words[2] != UP:
+                self.forget(self.plan.wires[words[1]].service, words[0], words[1])
+        elif kind in ("sent", "copied"):
+            self.steps.put(f"packet {words[0]}", " ".join(self.network.packets.get(words[0], ())))
+        elif kind == "aged":
+            self.steps.put(f"packet {words[0]}", "")
+        elif kind == "in":
+            circuit = self.plan.circuits[words[0]]
+            self.sources[words[1]] = words[2][12:24]
+            self.hears = circuit["service"], circuit["edge"], words[2][12:24], words[0]
+        elif kind == "dropped" and words[2] != BEHIND_THE_BRIDGE:
+            self.hears = None
+        elif kind == "adjacency":
+            self.steps.put(f"adjacency {words[0]} {words[1]}", words[2])
+
+    def end_event(self) -> None:
+        """What is so behind an event."""
+        if self.hears is not None and len(self.hears[2]) == len("020000000001"):
+            self.learn(*self.hears)
+        self.hears = None
+        for a, b in self.touched:
+            if (a, b) in self.network.pipes:
+                octets = self.network.pipes[a, b].octets()
+                self.steps.put(f"octets {a} {b}", str(octets) if octets else "")
+        if self.touched or self.network.told:
+            self.put_calm()
+        self.touched.clear()
+        self.network.told.clear()
+        self.steps.end_event()
+
+    def put_calm(self) -> None:
+        """Which services are calm."""
+        for service in self.plan.services:
+            self.steps.put(f"calm {service}", "calm" if self.network.is_calm(service) else "not calm")
+
+    def learn(self, service: str, edge: str, address: str, port: str) -> None:
+        """A bridge hears an address."""
+        self.learned.learn(service, edge, address, port)
+        found = self.learned.bridges[service].get(edge, {}).get(address)
+        if found == (port, self.learned.ticks):
+            self.steps.put(f"mac {service} {edge} {address}", f"{port} {found[1]}")
+            forgets = found[1] + self.plan.services[service]["age"]
+            self.old.setdefault(forgets, []).append((service, edge, address, found[1]))
+
+    def tick(self) -> None:
+        """A tick: what has grown old is forgotten."""
+        self.learned.ticks += 1
+        self.steps.put("tick", str(self.learned.ticks))
+        for service, edge, address, since in self.old.pop(self.learned.ticks, ()):
+            bridge = self.learned.bridges[service].get(edge, {})
+            if address in bridge and bridge[address][1] == since:
+                del bridge[address]
+                self.steps.put(f"mac {service} {edge} {address}", "")
+
+    def forget(self, service: str, edge: str, port: str) -> None:
+        """What was learned behind a port is forgotten."""
+        before = list(self.learned.bridges[service].get(edge, ()))
+        self.learned.forget_port(service, edge, port)
+        self.put_forgotten(service, edge, before)
+
+    def restart(self, edge: str) -> None:
+        """An edge forgets all."""
+        for service, bridges in self.learned.bridges.items():
+            before = list(bridges.pop(edge, ()))
+            self.put_forgotten(service, edge, before)
+        for a, b in self.network.sessions:
+            if a == edge:
+                self.steps.put(f"session {a} {b}", self.network.sessions[a, b])
+        for end, wire in self.network.ends:
+            if end == edge:
+                self.steps.put(f"end {end} {wire}", self.network.ends[end, wire])
+
+    def withdraw(self, words: list[str]) -> None:
+        """An edge hears withdrawals of addresses."""
+        pipe = self.network.pipes.get((words[0], words[1]))
+        came = pipe.came if pipe is not None else []
+        if not came:
+            return
+        before = {service: list(bridges.get(words[1], ())) for service, bridges in self.learned.bridges.items()}
+        for octets in came:
+            self.learned.withdraw(words[1], words[0], octets)
+        for service, addresses in before.items():
+            self.put_forgotten(service, words[1], addresses)
+
+    def put_forgotten(self, service: str, edge: str, before: list[str]) -> None:
+        """Those of the addresses that a bridge no longer knows."""
+        bridge = self.learned.bridges[service].get(edge, {})
+        for address in before:
+            if address not in bridge:
+                self.steps.put(f"mac {service} {edge} {address}", "")
+
+
+def steps_of(plan: Plan, report: Report) -> Steps:
+    """The steps of a report over its plan."""
+    return Follower(plan, report).follow()
