@@ -7,6 +7,13 @@ const frameColour = frame => frame === "0" ? "#6b7c8c" : FRAME_COLOURS[(frame - 
 const wireOf = new Map(plan.wires.map(wire => [wire.name, wire]));
 const circuitOf = new Map(plan.circuits.map(circuit => [circuit.name, circuit]));
 const edgeOf = new Map(plan.edges.map(edge => [edge.name, edge]));
+// On a narrow page a small plan is pushed together, and a large one is moved about.
+if (window.innerWidth <= 700) {
+  const share = plan.edges.length <= 8 ? 0.55 : 1;
+  for (const one of [...plan.edges, ...plan.circuits]) one.x *= share;
+  plan.width *= share;
+  document.documentElement.style.setProperty("--least", share < 1 ? "0" : "800px");
+}
 let steps, lines, begins, starts, was, state, cellAt, last, event = 0, chosen = "", timer = null;
 // The packets that are under way, and what each edge has learned, as cells.
 const packets = new Set(), learned = new Set();
@@ -130,8 +137,15 @@ function drawSessions(of, flash) {
     const [x1, y1, x2, y2] = shift(of, "", a, b), up = isUp(a, b) && plan.told;
     const hot = flash.has(`session ${a} ${b}`) || flash.has(`session ${b} ${a}`);
     const title = `session ${a}: ${value(`session ${a} ${b}`)}, ${b}: ${value(`session ${b} ${a}`)}`;
-    let text = `<line class="${hot ? "flash" : ""}" x1="${x1}" y1="${y1}" x2="${x2}" y2="${y2}" stroke="var(--pale)" stroke-width="1"${up ? "" : ' stroke-dasharray="1 5"'}><title>${safe(title)}</title></line>`;
-    for (const [from, to, part] of [[a, b, 0.3], [b, a, 0.7]]) {
+    return `<line class="${hot ? "flash" : ""}" x1="${x1}" y1="${y1}" x2="${x2}" y2="${y2}" stroke="var(--pale)" stroke-width="1"${up ? "" : ' stroke-dasharray="1 5"'}><title>${safe(title)}</title></line>`;
+  }).join("");
+}
+
+function drawOctets(of) {
+  return plan.pairs.map(([a, b]) => {
+    const [x1, y1, x2, y2] = shift(of, "", a, b);
+    let text = "";
+    for (const [from, to, part] of [[a, b, 0.22], [b, a, 0.78]]) {
       const octets = value(`octets ${from} ${to}`), x = x1 + (x2 - x1) * part, y = y1 + (y2 - y1) * part;
       if (octets) text += `<g class="octets"><rect x="${x - 4}" y="${y - 4}" width="8" height="8" fill="var(--wait)"/><text class="small halo" x="${x}" y="${y - 7}" text-anchor="middle">${octets} to ${safe(to)}</text><title>${octets} octets of LDP from ${safe(from)} to ${safe(to)}</title></g>`;
     }
@@ -144,7 +158,7 @@ function drawWire(of, flash, wire) {
   const hot = ends(wire).some(edge => flash.has(`end ${edge} ${wire.name}`)), picked = chosen === `wire ${wire.name}`;
   const has = wires().length <= MOST_LABELS || picked;
   const parts = segments(wire).map(([a, b], at) => {
-    const [x1, y1, x2, y2] = shift(of, wire.name, a, b), share = wire.kind === "spoke" ? 0.38 : 0.5;
+    const [x1, y1, x2, y2] = shift(of, wire.name, a, b), share = wire.kind === "spoke" ? 0.38 : 0.34;
     const x = x1 + (x2 - x1) * share, y = y1 + (y2 - y1) * share + (wire.kind === "spoke" ? 0 : -6);
     const prio = wire.kind === "spoke" ? ` (${wire.priority})` : "";
     const label = at === 0 && has ? `<text class="halo" x="${x}" y="${y}" text-anchor="middle" style="fill:${colour}">${safe(wire.name + prio)}${kind === "carries" ? "" : ": " + safe(text.replace("down: ", ""))}</text>` : "";
@@ -155,7 +169,7 @@ function drawWire(of, flash, wire) {
 }
 
 function drawEdge(edge) {
-  const picked = chosen === `edge ${edge.name}`, wide = Math.max(58, 8 * edge.name.length + 14);
+  const picked = chosen === `edge ${edge.name}`, wide = Math.max(58, 8 * edge.name.length + 14, 6.8 * edge.address.length + 10);
   return `<g class="pick edge" data-pick="edge ${safe(edge.name)}"><rect x="${edge.x - wide / 2}" y="${edge.y - 18}" width="${wide}" height="36" rx="3" fill="var(--box)" stroke="var(--ink)" stroke-width="${picked ? 3 : 1.4}"/>` +
     `<text x="${edge.x}" y="${edge.y - 3}" text-anchor="middle" font-weight="bold">${safe(edge.name)}</text><text class="small" x="${edge.x}" y="${edge.y + 12}" text-anchor="middle">${safe(edge.address)}</text></g>`;
 }
@@ -205,7 +219,7 @@ function drawMap() {
   const box = `0 0 ${plan.width} ${plan.height}`;
   $("map").innerHTML = `<svg xmlns="http://www.w3.org/2000/svg" viewBox="${box}" role="img" aria-label="the network behind event ${safe(words(event))}">` +
     drawSessions(of, flash) + wires().map(wire => drawWire(of, flash, wire)).join("") + circuits.map(circuit => drawCircuit(circuit, lit)).join("") +
-    plan.edges.map(drawEdge).join("") + drawPackets(of, flash) + drawDrops(drops) + "</svg>";
+    drawOctets(of) + plan.edges.map(drawEdge).join("") + drawPackets(of, flash) + drawDrops(drops) + "</svg>";
 }
 
 function drawLines() {
@@ -279,7 +293,7 @@ const STATES = {
   frame(name) {
     const all = told.get(name) || [], so_far = all.filter(row => row[0] <= event);
     const under = [...packets].filter(cell => steps.values[state[cell]].split(" ")[4] === name).map(cell => { const [a, b, wire] = steps.values[state[cell]].split(" "); return `${safe(steps.cells[cell])} from ${safe(a)} to ${safe(b)} on ${safe(wire)}`; });
-    const row = plan.frames[name], verdict = row && event === last ? `<p>At the end: ${[row.twice.length ? "twice at " + row.twice.map(safe).join(", ") : "", row.missed.length ? "never at " + row.missed.map(safe).join(", ") : ""].filter(Boolean).join("; ") || "nobody twice, nobody missed"}</p>` : "";
+    const row = plan.frames[name], verdict = row && event === last ? `<p>At the end: ${[row.twice.length ? "twice at " + row.twice.map(safe).join(", ") : "", row.missed.length ? "never at " + row.missed.map(safe).join(", ") : row.twice.length ? "" : "it ended nowhere"].filter(Boolean).join("; ") || "nobody twice, nobody missed"}</p>` : "";
     const what = ([kind, words_]) => kind === "in" ? `entered at ${safe(words_[0])}, to ${words_[2].slice(0, 12)} from ${words_[2].slice(12, 24)}` : kind === "left" ? `served ${safe(words_[0])}, ${words_[2]} segments` :
       kind === "dropped" ? `dropped at ${safe(words_[0])}: ${safe(words_[2])}` : kind === "sent" ? `packet ${words_[0]} from ${safe(words_[1])} to ${safe(words_[2])} on ${safe(words_[3])}` : kind === "copied" ? `packet ${words_[1]} repeated as ${words_[0]}` : `packet ${words_[0]} aged`;
     return table(["event", "what"], so_far.map(one => [one[0], what([one[2], one[3]])])) + `<p>Under way: ${under.join("; ") || "no copy"}</p>${verdict}`;

@@ -51,9 +51,9 @@ def plan_rows(plan: Plan, report: Report) -> dict[str, Any]:
 
 
 def marked_frames(plan: Plan, report: Report) -> dict[str, Any]:
-    """The frames that a site got twice, or that a flood left out."""
+    """The frames that a site got twice, or that a flood left out, or that ended nowhere."""
     rows = sum_up(plan, follow(plan, report))["frames"]
-    return {row["frame"]: {"event": row["event"], "twice": row["twice"], "missed": row["missed"]} for row in rows if row["twice"] or row["missed"]}
+    return {row["frame"]: {"event": row["event"], "twice": row["twice"], "missed": row["missed"]} for row in rows if row["twice"] or row["missed"] or row["nowhere"]}
 
 
 def names_of(report: Report) -> list[str]:

@@ -1,0 +1,74 @@
+#!/usr/bin/env python3
+"""Opens the page of a run in a real browser and tries what a reader does with it.
+
+Usage: player_browser.py PAGE EVENT.. [--at WHAT..]
+
+Prints JSON: what the page shows behind each of these events, by the state that it holds; where the keys and buttons lead; what is
+looked at once WHAT was chosen, each with its text; and what the browser says of faults. Needs python3-selenium and chromium-driver.
+"""
+
+from __future__ import annotations
+
+import json
+import sys
+
+from browser import opened, waited_for
+
+TYPE_CHECKING = False
+if TYPE_CHECKING:
+    from typing import Any
+
+# Sessions, ends and stations as the page holds them behind an event.
+STATE = """
+go(arguments[0]);
+const found = {};
+for (const [name, cell] of cellAt) {
+  if (/^(session|end|mac) /.test(name) && state[cell]) found[name] = steps.values[state[cell]];
+}
+return [found, document.getElementById("now").textContent, document.querySelectorAll("#rows .event.current").length,
+  packets.size, document.querySelectorAll("g.packet").length];
+"""
+KEY = "document.dispatchEvent(new KeyboardEvent('keydown', {key: arguments[0], bubbles: true})); return event;"
+CHOOSE = "choose(arguments[0]); return document.getElementById('state').textContent;"
+OPEN = "return document.body.dataset.open"
+
+
+def keys(browser: Any) -> dict[str, int]:
+    """Where some keys lead, one after another from the first event on; `document` takes them, so the target is replaced by the body."""
+    script = KEY.replace("document.dispatchEvent", "document.body.dispatchEvent")
+    names = ("Home", "ArrowRight", "ArrowRight", "ArrowLeft", "PageDown", "End", "ArrowRight", "PageUp")
+    return {f"{at} {name}": browser.execute_script(script, name) for at, name in enumerate(names)}
+
+
+def changes(browser: Any, what: str) -> list[int]:
+    """The events that change what is looked at, by the key for the next one."""
+    browser.execute_script("go(0); choose(arguments[0])", what)
+    found: list[int] = []
+    while not found or len(found) < 2 or found[-1] != found[-2]:
+        found.append(browser.execute_script(KEY.replace("document.dispatchEvent", "document.body.dispatchEvent"), "n"))
+    return found[:-1]
+
+
+def main() -> None:
+    """Opens the page, tries it, and prints what it saw."""
+    page, *words = sys.argv[1:]
+    split = words.index("--at") if "--at" in words else len(words)
+    events, chosen = [int(word) for word in words[:split]], words[split + 1 :]
+    browser = opened(page)
+    try:
+        waited_for(lambda: browser.execute_script(OPEN))
+        found: dict[str, Any] = {"states": [browser.execute_script(STATE, event) for event in events], "keys": keys(browser)}
+        found["chosen"] = {what: browser.execute_script(CHOOSE, what) for what in chosen}
+        found["changes"] = {what: changes(browser, what) for what in chosen}
+        browser.get("about:blank")
+        browser.get(f"file://{page}#event={events[0]}")
+        waited_for(lambda: browser.execute_script(OPEN))
+        found["opened"] = browser.execute_script("return event")
+        found["log"] = [line["message"] for line in browser.get_log("browser")]
+        print(json.dumps(found))
+    finally:
+        browser.quit()
+
+
+if __name__ == "__main__":
+    main()

@@ -1,0 +1,123 @@
+"""The checks of the page on which a run is looked at event by event: its state is that of `tables`, and a browser does what a reader does."""
+
+from __future__ import annotations
+
+import json
+import pathlib
+import sys
+
+from .at_event import AtEvent
+from .plan import read_plan
+from .report import read_report
+from .steps import steps_of
+from .trying import TOP, compare, run, tool
+
+TYPE_CHECKING = False
+if TYPE_CHECKING:
+    from collections.abc import Iterator
+    from typing import Any
+
+    from .steps import Steps
+
+EXAMPLES = TOP / "examples"
+# What is looked at behind which events, in the page: 20 of three runs; and of one of them what is chosen there.
+SHOWN = {"old-way": (38, 0, 3, 18, 22, 36, 40, 44, 48), "spoke-moves": (35, 8, 31, 38, 41, 45), "session-lost": (50, 20, 45, 55, 66)}
+CHOSEN = ("frame 3", "wire xa")
+# By hand: the frame enters, is passed on, and is dropped; the spoke comes up by eight events, and x moves away, which a then hears.
+CHANGES = {"frame 3": [37, 38, 39], "wire xa": [3, 18, 19, 20, 21, 22, 36, 40]}
+KEYS = {"0 Home": 0, "1 ArrowRight": 1, "2 ArrowRight": 2, "3 ArrowLeft": 1, "4 PageDown": 2, "5 End": 48, "6 ArrowRight": 48, "7 PageUp": 45}
+# Where `tables` holds no session, the page tells how the last one ended.
+ENDED, NONE = "Ended:", "NonExistent"
+
+
+def players(folder: pathlib.Path, _gone: set[str]) -> Iterator[Any]:
+    """The steps of whole runs, the page in a browser, and files that are none."""
+    for name in ("old-way", "restart", "ageing", "mesh-over-chain"):
+        yield from whole_run(name)
+    yield from in_browser(folder)
+    yield from refused(folder)
+
+
+def tables_of(at: AtEvent, events: list[str], number: int) -> dict[str, str]:
+    """The sessions, the terminal ends and the stations that `tables` tells behind an event, named as the steps name them."""
+    found, edge, at.events = {}, "", events[:number]
+    for line in at.tables():
+        kind, *words = line.split(" ")
+        if kind == "edge":
+            edge = words[0]
+        elif kind == "session":
+            found[f"session {edge} {words[0]}"] = words[1]
+        elif kind == "end" and edge in at.plan.wires[words[0]].ends():
+            found[f"end {edge} {words[0]}"] = words[5]
+        elif kind == "mac":
+            found[f"mac {words[0]} {edge} {words[1]}"] = " ".join(words[2:])
+    return found
+
+
+def as_tables(state: dict[str, str]) -> dict[str, str]:
+    """Of a state what `tables` tells."""
+    kept = {name: text for name, text in state.items() if text and name.split(" ")[0] in ("session", "end", "mac")}
+    return {name: NONE if text.startswith(ENDED) else text for name, text in kept.items()}
+
+
+def states(steps: Steps) -> Iterator[dict[str, str]]:
+    """What is so behind each event, from before the first one on."""
+    state: dict[str, str] = {}
+    cells, values = list(steps.cells), list(steps.values)
+    for begin, end in zip(steps.begins, steps.begins[1:]):
+        state.update((cells[steps.changed[place]], values[steps.to[place]]) for place in range(begin, end))
+        yield dict(state)
+
+
+def whole_run(name: str) -> Iterator[Any]:
+    """Behind each event of a run the state is that of `tables`."""
+    path = EXAMPLES / f"{name}.toml"
+    plan, at = read_plan(path), AtEvent(str(path), "end")
+    events = list(at.events)
+    found = states(steps_of(plan, read_report(EXAMPLES / f"{name}.txt", plan)))
+    wrong = [number for number, state in enumerate(found) if as_tables(state) != tables_of(at, events, number)]
+    yield compare(f"player, {name} behind each event", wrong, [])
+
+
+def in_browser(folder: pathlib.Path) -> Iterator[Any]:
+    """What a browser shows behind some events, and what it does with keys and with what is chosen."""
+    pythons = (sys.executable, "/usr/bin/python3")
+    python = next((path for path in pythons if run([path, "-c", "import selenium"], folder).returncode == 0), None)
+    if python is None or not pathlib.Path("/usr/bin/chromedriver").exists():
+        print("python3-selenium or chromium-driver is missing, and no player is opened in a browser")
+        return
+    for name, numbers in SHOWN.items():
+        page, path = folder / f"{name}.html", EXAMPLES / f"{name}.toml"
+        page.write_text(tool("player", path, EXAMPLES / f"{name}.txt")[1], encoding="utf-8")
+        more = ["--at", *CHOSEN] if name == "old-way" else []
+        done = run([python, TOP / "tools" / "rengahowi" / "player_browser.py", page, *map(str, numbers), *more], folder, text=True)
+        seen = json.loads(done.stdout or "{}")
+        at = AtEvent(str(path), "end")
+        events = list(at.events)
+        wrong = [
+            number for number, (state, *_) in zip(numbers, seen.get("states", ())) if as_tables(state) != tables_of(at, events, number)
+        ]
+        yield compare(f"player of {name} in a browser", (len(seen.get("states", ())), wrong), (len(numbers), []))
+        yield compare(f"player of {name}, opened at an event", (seen.get("opened"), seen.get("log")), (numbers[0], []))
+        if more:
+            yield compare("player, keys", seen.get("keys"), KEYS)
+            yield compare("player, next change", seen.get("changes"), CHANGES)
+            yield compare("player, event 38", seen["states"][0][1:], ["38: arrive 6 (of 48)", 1, 1, 1])
+            chosen = seen.get("chosen", {})
+            yield compare("player, a frame", "dropped at x: Down" in chosen.get("frame 3", ""), True)
+            yield compare("player, a wire", "priority 10: standing by" in chosen.get("wire xa", ""), True)
+
+
+def refused(folder: pathlib.Path) -> Iterator[Any]:
+    """A report that is cut, that is wrong, and that is another scenario's."""
+    example, report = EXAMPLES / "old-way.toml", folder / "report.txt"
+    text = (EXAMPLES / "old-way.txt").read_text(encoding="utf-8")
+    for name, content, right in [
+        ("cut", text[: len(text) // 2], "it is not whole"),
+        ("without its last line", text.rpartition("end ")[0], "it is not whole"),
+        ("wrong", text.replace("> arrive 6", "> arrive six"), "is no number"),
+        ("of another scenario", text.replace("wire x xa", "wire x xz"), "the scenario has no wire 'xz'"),
+    ]:
+        report.write_text(content, encoding="utf-8")
+        status, said, fault = tool("player", example, report)
+        yield compare(f"player of a report that is {name}", (status, said, right in fault, fault.count("\n")), (1, "", True, 1))
