@@ -7,12 +7,14 @@ const frameColour = frame => frame === "0" ? "#6b7c8c" : FRAME_COLOURS[(frame - 
 const wireOf = new Map(plan.wires.map(wire => [wire.name, wire]));
 const circuitOf = new Map(plan.circuits.map(circuit => [circuit.name, circuit]));
 const edgeOf = new Map(plan.edges.map(edge => [edge.name, edge]));
-// On a narrow page a small plan is pushed together, and a large one is moved about.
-if (window.innerWidth <= 700) {
-  const share = plan.edges.length <= 8 ? 0.55 : 1;
-  for (const one of [...plan.edges, ...plan.circuits]) one.x *= share;
-  plan.width *= share;
-  document.documentElement.style.setProperty("--least", share < 1 ? "0" : "800px");
+// On a narrow page a small plan is pushed together, and a large one is moved about; so is a tall one on each page.
+const isNarrow = window.innerWidth <= 700, isSmall = plan.edges.length <= 8;
+if (isNarrow && isSmall) pushTogether(0.55, 0.72);
+function pushTogether(across, up) {
+  for (const one of plan.circuits) { const edge = edgeOf.get(one.edge); one.x += edge.x * (across - 1); one.y += edge.y * (up - 1); }
+  for (const one of plan.edges) { one.x *= across; one.y *= up; }
+  plan.width *= across;
+  plan.height = Math.max(...[...plan.edges, ...plan.circuits].map(one => one.y)) + 30;
 }
 let steps, lines, begins, starts, was, state, cellAt, last, event = 0, chosen = "", timer = null;
 // The packets that are under way, and what each edge has learned, as cells.
@@ -130,12 +132,23 @@ function shift(of, wire, a, b) {
   return [from.x + x, from.y + y, to.x + x, to.y + y];
 }
 
+// Whether an edge is looked at, and whether a wire is or ends there; where something is, the rest of a large plan is paler.
+const touches = edge => chosen === `edge ${edge}`;
+function isPale(wire) {
+  const [kind, name] = chosen.split(" ");
+  if (wires().length <= MOST_LABELS || !kind) return false;
+  if (kind === "frame") return !(told.get(name) || []).some(row => row[0] <= event && row[2] === "sent" && row[3][3] === wire.name);
+  if (kind === "circuit") return !wire.path.includes(circuitOf.get(name).edge);
+  return kind === "edge" ? !wire.path.includes(name) : wire.name !== name;
+}
+
 const LOOK = { carries: "", waits: ' stroke-dasharray="8 5" stroke-opacity="0.65"', down: ' stroke-dasharray="1.5 4"' };
 
 function drawSessions(of, flash) {
   return plan.pairs.map(([a, b]) => {
     const [x1, y1, x2, y2] = shift(of, "", a, b), up = isUp(a, b) && plan.told;
     const hot = flash.has(`session ${a} ${b}`) || flash.has(`session ${b} ${a}`);
+    if (up && !hot && plan.pairs.length > MOST_LABELS && !touches(a) && !touches(b)) return "";
     const title = `session ${a}: ${value(`session ${a} ${b}`)}, ${b}: ${value(`session ${b} ${a}`)}`;
     return `<line class="${hot ? "flash" : ""}" x1="${x1}" y1="${y1}" x2="${x2}" y2="${y2}" stroke="var(--pale)" stroke-width="1"${up ? "" : ' stroke-dasharray="1 5"'}><title>${safe(title)}</title></line>`;
   }).join("");
@@ -156,7 +169,7 @@ function drawOctets(of) {
 function drawWire(of, flash, wire) {
   const [kind, text] = stands(wire), colour = kind === "down" ? "var(--bad)" : plan.services[wire.service];
   const hot = ends(wire).some(edge => flash.has(`end ${edge} ${wire.name}`)), picked = chosen === `wire ${wire.name}`;
-  const has = wires().length <= MOST_LABELS || picked;
+  const has = wires().length <= MOST_LABELS || picked || kind === "down" && hot;
   const parts = segments(wire).map(([a, b], at) => {
     const [x1, y1, x2, y2] = shift(of, wire.name, a, b), share = wire.kind === "spoke" ? 0.38 : 0.34;
     const x = x1 + (x2 - x1) * share, y = y1 + (y2 - y1) * share + (wire.kind === "spoke" ? 0 : -6);
@@ -165,7 +178,7 @@ function drawWire(of, flash, wire) {
     const at4 = `x1="${x1}" y1="${y1}" x2="${x2}" y2="${y2}"`;
     return `<line ${at4} class="${hot ? "flash" : ""}" stroke="${colour}" stroke-width="${picked ? 4 : 2}"${LOOK[kind]}/><line class="wide" ${at4}/>${label}`;
   });
-  return `<g class="pick wire" data-pick="wire ${safe(wire.name)}" data-stands="${kind}">${parts.join("")}<title>${safe(wire.name)}: ${wire.kind} of ${safe(wire.service)}, ${safe(text)}</title></g>`;
+  return `<g class="pick wire"${isPale(wire) ? ' opacity="0.12"' : ""} data-pick="wire ${safe(wire.name)}" data-stands="${kind}">${parts.join("")}<title>${safe(wire.name)}: ${wire.kind} of ${safe(wire.service)}, ${safe(text)}</title></g>`;
 }
 
 function drawEdge(edge) {
@@ -213,11 +226,21 @@ function drawDrops(drops) {
   return drops.map(([edge, frame, cause], at) => `<text class="halo" x="${edgeOf.get(edge).x}" y="${edgeOf.get(edge).y + 32 + 13 * at}" text-anchor="middle" style="fill:var(--bad);font-weight:bold">✖ ${frame === "0" ? "ping" : "frame " + frame}: ${safe(cause)}</text>`).join("");
 }
 
+let zoom = 1;
+// How large the map is drawn: all of it in sight, but not so small that nobody reads it.
+function sizeOf(map) {
+  const fits = Math.min(map.clientWidth / plan.width, map.clientHeight / plan.height), scale = Math.max(fits, isSmall ? 0 : 0.72) * zoom;
+  return scale <= fits ? "" : `width:${Math.max(map.clientWidth, scale * plan.width)}px;height:${Math.max(map.clientHeight, scale * plan.height)}px`;
+}
+
+function magnify(by) { zoom = Math.max(0.25, Math.min(8, zoom * by)); drawMap(); }
+
 function drawMap() {
   const of = lanes(), flash = changedNow(), [lit, drops] = framesNow();
   const circuits = plan.circuits.filter(circuit => shown(circuit.service));
   const box = `0 0 ${plan.width} ${plan.height}`;
-  $("map").innerHTML = `<svg xmlns="http://www.w3.org/2000/svg" viewBox="${box}" role="img" aria-label="the network behind event ${safe(words(event))}">` +
+  const size = sizeOf($("map"));
+  $("map").innerHTML = `<svg style="${size}" xmlns="http://www.w3.org/2000/svg" viewBox="${box}" role="img" aria-label="the network behind event ${safe(words(event))}">` +
     drawSessions(of, flash) + wires().map(wire => drawWire(of, flash, wire)).join("") + circuits.map(circuit => drawCircuit(circuit, lit)).join("") +
     drawOctets(of) + plan.edges.map(drawEdge).join("") + drawPackets(of, flash) + drawDrops(drops) + "</svg>";
 }
@@ -294,7 +317,7 @@ const STATES = {
     const all = told.get(name) || [], so_far = all.filter(row => row[0] <= event);
     const under = [...packets].filter(cell => steps.values[state[cell]].split(" ")[4] === name).map(cell => { const [a, b, wire] = steps.values[state[cell]].split(" "); return `${safe(steps.cells[cell])} from ${safe(a)} to ${safe(b)} on ${safe(wire)}`; });
     const row = plan.frames[name], verdict = row && event === last ? `<p>At the end: ${[row.twice.length ? "twice at " + row.twice.map(safe).join(", ") : "", row.missed.length ? "never at " + row.missed.map(safe).join(", ") : row.twice.length ? "" : "it ended nowhere"].filter(Boolean).join("; ") || "nobody twice, nobody missed"}</p>` : "";
-    const what = ([kind, words_]) => kind === "in" ? `entered at ${safe(words_[0])}, to ${words_[2].slice(0, 12)} from ${words_[2].slice(12, 24)}` : kind === "left" ? `served ${safe(words_[0])}, ${words_[2]} segments` :
+    const what = ([kind, words_]) => kind === "in" ? `entered at ${safe(words_[0])}, to ${words_[2].slice(0, 12)} from ${words_[2].slice(12, 24)}` : kind === "left" ? `served ${safe(words_[0])} over ${words_[2]} segment${words_[2] === "1" ? "" : "s"}` :
       kind === "dropped" ? `dropped at ${safe(words_[0])}: ${safe(words_[2])}` : kind === "sent" ? `packet ${words_[0]} from ${safe(words_[1])} to ${safe(words_[2])} on ${safe(words_[3])}` : kind === "copied" ? `packet ${words_[1]} repeated as ${words_[0]}` : `packet ${words_[0]} aged`;
     return table(["event", "what"], so_far.map(one => [one[0], what([one[2], one[3]])])) + `<p>Under way: ${under.join("; ") || "no copy"}</p>${verdict}`;
   },
@@ -307,7 +330,7 @@ function drawState() {
   if (STATES[kind]) { $("state").innerHTML = `<h2>${safe(chosen)}</h2>${STATES[kind](name.join(" "))}`; return; }
   const services = Object.keys(plan.services).filter(shown).map(service => [safe(service), safe(value(`calm ${service}`)), plan.wires.filter(wire => wire.service === service && stands(wire)[0] === "carries").length, plan.wires.filter(wire => wire.service === service).length]);
   $("state").innerHTML = `<h2>the network</h2>${table(["service", "is", "wires that carry", "of"], services)}<p>${packets.size} packets under way, tick ${value("tick") || 0}. Click an edge, a wire, a circuit or a packet.</p>` +
-    `<p>Keys: left and right an event, Page Up and Page Down a command, Home and End, space plays, n and N the next and the last change of what is looked at, Escape the whole network.</p>`;
+    `<p>Keys: left and right an event, Page Up and Page Down a command, Home and End, space plays, n and N the next and the last change of what is looked at, Escape the whole network, + and - the size of the picture.</p>`;
 }
 
 function draw() {
@@ -367,7 +390,7 @@ function play() {
 function jump(to) { if (to !== undefined) go(to); }
 
 const KEYS = { ArrowRight: () => go(event + 1), ArrowLeft: () => go(event - 1), Home: () => go(0), End: () => go(last), PageDown: () => go(nextCommand(1)), PageUp: () => go(nextCommand(-1)),
-  " ": play, n: () => jump(nextChange(1)), N: () => jump(nextChange(-1)), Escape: () => choose("") };
+  " ": play, "+": () => magnify(1.4), "-": () => magnify(1 / 1.4), n: () => jump(nextChange(1)), N: () => jump(nextChange(-1)), Escape: () => choose("") };
 
 // Where a service leaves and regains calm, and where a frame arrives twice or never.
 function drawMarks() {
@@ -389,7 +412,7 @@ function fill() {
 
 function listen() {
   $("slider").addEventListener("input", () => { stop(); go(Number($("slider").value)); });
-  for (const [id, work] of Object.entries({ first: KEYS.Home, back: KEYS.ArrowLeft, on: KEYS.ArrowRight, last: KEYS.End, play, command: KEYS.PageDown, change: KEYS.n })) $(id).addEventListener("click", work);
+  for (const [id, work] of Object.entries({ first: KEYS.Home, back: KEYS.ArrowLeft, on: KEYS.ArrowRight, last: KEYS.End, play, command: KEYS.PageDown, change: KEYS.n, larger: KEYS["+"], smaller: KEYS["-"] })) $(id).addEventListener("click", work);
   $("speed").addEventListener("change", () => { if (timer) { stop(); play(); } });
   $("service").addEventListener("change", draw);
   $("chosen").addEventListener("change", () => choose($("chosen").value));

@@ -12,8 +12,8 @@ if TYPE_CHECKING:
 
     Places = dict[tuple[str, str], tuple[float, float]]
 
-# From an edge to its first circuit, and the free room around all.
-TO_CIRCUIT, ROOM = 44, 60
+# By so much each row of spoke edges but the first one is nearer than in the picture; and the free room around all.
+UP, ROOM = 90, 60
 
 
 def standing(plan: Plan) -> Places:
@@ -31,8 +31,19 @@ def standing(plan: Plan) -> Places:
     else:
         found = around(plan, rest)
         put_row(found, plan, middle, 0)
+    if spokes:
+        draw_up(found, plan)
     left, top = min(x for x, _ in found.values()), max(y for _, y in found.values())
     return {key: (x - left + ROOM, top - y + ROOM) for key, (x, y) in found.items()}
+
+
+def draw_up(found: Places, plan: Plan) -> None:
+    """Of several rows of spoke edges the lower ones stand nearer to the first one than in the picture, where names need the room."""
+    rows = sorted({found["edge", edge][1] for edge in plan.edges if found["edge", edge][1] <= -ROW_GAP}, reverse=True)
+    up = {height: place * UP for place, height in enumerate(rows)}
+    shifts = {edge: up.get(found["edge", edge][1], 0) for edge in plan.edges}
+    for (kind, name), (x, y) in list(found.items()):
+        found[kind, name] = x, y + shifts[name if kind == "edge" else plan.circuits[name]["edge"]]
 
 
 def middles(plan: Plan) -> list[str]:
