@@ -292,19 +292,25 @@ function pointsTo(service, edge, address) {
   return "astray: in a circle";
 }
 
+// What an edge advertises to a neighbour on a wire, and what it has heard of it.
+function labels(edge, wire, peer) {
+  const own = value(`told ${edge} ${wire.name} ${peer}`), heard = value(`heard ${edge} ${wire.name} ${peer}`);
+  return [safe(peer), own.endsWith("!") ? `${own.slice(0, -1)}, withdrawn` : own || "-", heard || "-"];
+}
+
 const STATES = {
   edge(name) {
     const peers = plan.pairs.filter(pair => pair.includes(name)).map(([a, b]) => a === name ? b : a);
     const sessions = peers.map(peer => [safe(peer), safe(value(`session ${name} ${peer}`)), safe(value(`adjacency ${name} ${peer}`) || "-"), value(`octets ${peer} ${name}`) || 0]);
-    const own = wires().filter(wire => ends(wire).includes(name)).map(wire => [safe(wire.name), safe(value(`end ${name} ${wire.name}`)), safe(stands(wire)[1])]);
-    const inner = wires().filter(wire => wire.path.slice(1, -1).includes(name)).map(wire => [safe(wire.name), "switching point", safe(stands(wire)[1])]);
-    return table(["session with", "state", "adjacency", "octets to it"], sessions) + table(["wire", "its end here", "as a whole"], own.concat(inner)) +
+    const own = wires().filter(wire => wire.path.includes(name)).flatMap(wire => segments(wire).filter(pair => pair.includes(name)).map(([a, b]) => [safe(wire.name), ...labels(name, wire, a === name ? b : a), safe(ends(wire).includes(name) ? value(`end ${name} ${wire.name}`) : "switching point"), safe(stands(wire)[1])]));
+    return table(["session with", "state", "adjacency", "octets to it"], sessions) + table(["wire", "to", "label told", "heard", "its end here", "as a whole"], own) +
       (table(["service", "station", "port", "age", "a frame to it"], learnedRows(name)) || "No station is learned here.");
   },
   wire(name) {
     const wire = wireOf.get(name), under = [...packets].filter(cell => steps.values[state[cell]].split(" ")[2] === name).map(cell => safe(steps.cells[cell]));
     return `<p>${wire.kind} of ${safe(wire.service)}, ${wire.path.map(safe).join(" – ")}, PW ID ${wire.pw_id}${wire.kind === "spoke" ? `, priority ${wire.priority}` : ""}: <b>${safe(stands(wire)[1])}</b></p>` +
       table(["end", "state"], ends(wire).map(edge => [safe(edge), safe(value(`end ${edge} ${name}`))])) +
+      table(["edge", "to", "label told", "heard"], segments(wire).flatMap(([a, b]) => [[a, b], [b, a]]).map(([a, b]) => [safe(a), ...labels(a, wire, b)])) +
       table(["session", "state"], segments(wire).flatMap(([a, b]) => [[a, b], [b, a]]).map(([a, b]) => [`${safe(a)} with ${safe(b)}`, safe(value(`session ${a} ${b}`))])) +
       `<p>Under way: ${under.join(", ") || "no packet"}</p>`;
   },
@@ -346,7 +352,7 @@ function draw() {
 function concerns() {
   const [kind, ...rest] = chosen.split(" "), name = rest.join(" ");
   if (kind === "wire") {
-    const own = new Set([...ends(wireOf.get(name)).map(edge => `end ${edge} ${name}`), ...segments(wireOf.get(name)).flatMap(([a, b]) => [`session ${a} ${b}`, `session ${b} ${a}`])]);
+    const own = new Set([...ends(wireOf.get(name)).map(edge => `end ${edge} ${name}`), ...segments(wireOf.get(name)).flatMap(([a, b]) => [[a, b], [b, a]]).flatMap(([a, b]) => [`session ${a} ${b}`, `told ${a} ${name} ${b}`, `heard ${a} ${name} ${b}`])]);
     return cell => own.has(cell);
   }
   if (kind === "edge") return cell => { const [what, one, two] = cell.split(" "); return what === "mac" ? two === name : what !== "octets" && one === name; };

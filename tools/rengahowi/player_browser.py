@@ -18,12 +18,12 @@ TYPE_CHECKING = False
 if TYPE_CHECKING:
     from typing import Any
 
-# Sessions, ends and stations as the page holds them behind an event.
+# Sessions, ends, labels and stations as the page holds them behind an event.
 STATE = """
 go(arguments[0]);
 const found = {};
 for (const [name, cell] of cellAt) {
-  if (/^(session|end|mac) /.test(name) && state[cell]) found[name] = steps.values[state[cell]];
+  if (/^(session|end|told|heard|mac) /.test(name) && state[cell]) found[name] = steps.values[state[cell]];
 }
 return [found, document.getElementById("now").textContent, document.querySelectorAll("#rows .event.current").length,
   packets.size, document.querySelectorAll("g.packet").length];

@@ -5,6 +5,8 @@ What may change is a cell, which has a name of a few words, and its value is a t
 
 - `session A B`: what edge A says of its session with B
 - `end E W`: what edge E says of its end of wire W
+- `told E W PEER` and `heard E W PEER`: the label that E advertises to its neighbour on the wire, with `!` while it is withdrawn, and the one
+  that it has heard
 - `circuit C`: on or off
 - `octets A B`: how many octets of LDP are on their way from A to B
 - `packet N`: edge, edge, wire, wire of arrival and frame of a packet that is under way
@@ -16,8 +18,9 @@ What may change is a cell, which has a name of a few words, and its value is a t
 
 from __future__ import annotations
 
+from .label_steps import Labels
 from .learned import Learned
-from .network import UP, network_of
+from .network import OPERATIONAL, UP, network_of
 from .report import ALWAYS
 
 TYPE_CHECKING = False
@@ -70,7 +73,7 @@ class Follower:
     def __init__(self, plan: Plan, report: Report) -> None:
         self.plan, self.report, self.steps = plan, report, Steps()
         self.network: Network = network_of(plan, report.rows)
-        self.learned = Learned(plan)
+        self.learned, self.labels = Learned(plan), Labels(plan, self.network, self.steps.put)
         # By a tick what may be forgotten then: the service, the edge, the address, and since when it was known.
         self.old: dict[int, list[tuple[str, str, str, int]]] = {}
         self.sources: dict[str, str] = {}  # of each frame
@@ -106,11 +109,13 @@ class Follower:
     def begin(self, kind: str, words: list[str]) -> None:
         """What an event does that applies."""
         sent = self.network.packets.get(words[0]) if kind == "arrive" else None
+        heard = self.network.heard
         self.network.apply(kind, words)
         if kind in OF_LDP:
             self.touch(kind, words)
         if kind == "deliver":
             self.withdraw(words)
+            self.labels.deliver(words[0], words[1], self.network.heard - heard)
         elif kind == "restart":
             self.restart(words[0])
         elif kind == "tick":
@@ -141,9 +146,12 @@ class Follower:
         self.network.tell(kind, words)
         if kind == "said":
             self.touched.add((words[0], words[1]))
+            self.labels.say(words[0], words[1], words[2])
         elif kind == "session":
             self.steps.put(f"session {words[0]} {words[1]}", words[2])
             self.touched.update(((words[0], words[1]), (words[1], words[0])))
+            if words[2] != OPERATIONAL:
+                self.labels.end(words[0], words[1])
         elif kind == "wire":
             self.steps.put(f"end {words[0]} {words[1]}", words[2])
             if words[2] != UP:
@@ -213,6 +221,7 @@ class Follower:
             self.put_forgotten(service, edge, before)
         for a, b in self.network.sessions:
             if a == edge:
+                self.labels.end(a, b)
                 self.steps.put(f"session {a} {b}", self.network.sessions[a, b])
         for end, wire in self.network.ends:
             if end == edge:

@@ -26,20 +26,21 @@ CHOSEN = ("frame 3", "wire xa")
 # By hand: the frame enters, is passed on, and is dropped; the spoke comes up by eight events, and x moves away, which a then hears.
 CHANGES = {"frame 3": [37, 38, 39], "wire xa": [3, 18, 19, 20, 21, 22, 36, 40]}
 KEYS = {"0 Home": 0, "1 ArrowRight": 1, "2 ArrowRight": 2, "3 ArrowLeft": 1, "4 PageDown": 2, "5 End": 48, "6 ArrowRight": 48, "7 PageUp": 45}
+OF_TABLES = ("session", "end", "told", "heard", "mac")
 # Where `tables` holds no session, the page tells how the last one ended.
 ENDED, NONE = "Ended:", "NonExistent"
 
 
 def players(folder: pathlib.Path, _gone: set[str]) -> Iterator[Any]:
     """The steps of whole runs, the page in a browser, and files that are none."""
-    for name in ("old-way", "restart", "ageing", "mesh-over-chain"):
+    for name in ("old-way", "restart", "ageing", "mesh-over-chain", "label-comes-back"):
         yield from whole_run(name)
     yield from in_browser(folder)
     yield from refused(folder)
 
 
 def tables_of(at: AtEvent, events: list[str], number: int) -> dict[str, str]:
-    """The sessions, the terminal ends and the stations that `tables` tells behind an event, named as the steps name them."""
+    """The sessions, the terminal ends, the labels and the stations that `tables` tells behind an event, named as the steps name them."""
     found, edge, at.events = {}, "", events[:number]
     for line in at.tables():
         kind, *words = line.split(" ")
@@ -49,6 +50,8 @@ def tables_of(at: AtEvent, events: list[str], number: int) -> dict[str, str]:
             found[f"session {edge} {words[0]}"] = words[1]
         elif kind == "end" and edge in at.plan.wires[words[0]].ends():
             found[f"end {edge} {words[0]}"] = words[5]
+        if kind == "end":
+            found.update({f"{word} {edge} {words[0]} {words[2]}": label for word, label in zip(("told", "heard"), words[3:5]) if label != "-"})
         elif kind == "mac":
             found[f"mac {words[0]} {edge} {words[1]}"] = " ".join(words[2:])
     return found
@@ -56,7 +59,7 @@ def tables_of(at: AtEvent, events: list[str], number: int) -> dict[str, str]:
 
 def as_tables(state: dict[str, str]) -> dict[str, str]:
     """Of a state what `tables` tells."""
-    kept = {name: text for name, text in state.items() if text and name.split(" ")[0] in ("session", "end", "mac")}
+    kept = {name: text for name, text in state.items() if text and name.split(" ")[0] in OF_TABLES}
     return {name: NONE if text.startswith(ENDED) else text for name, text in kept.items()}
 
 
