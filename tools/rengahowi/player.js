@@ -48,6 +48,7 @@ function open(found) {
     if (line.startsWith("said ") || line.startsWith("hello ")) lines[at] = named(line, found.names[names++]);
   });
   starts.push(lines.length);
+  commands = [0, ...Array.from({ length: last }, (_, at) => at + 1).filter(isCommand)];
 }
 
 // A message by its name, in the place of its octets.
@@ -82,13 +83,27 @@ function move(to) {
   for (; event > to; event--) for (let at = begins[event + 1] - 1; at >= begins[event]; at--) put(steps.changed[at], was[at]);
 }
 
-function go(to) {
+function go(to, follows = false) {
   to = Math.max(0, Math.min(last, to));
   move(to);
   $("slider").value = event;
   $("slider").setAttribute("aria-valuetext", words(event));
   try { history.replaceState(null, "", address()); } catch { /* a page within another one has no address of its own */ }
   draw();
+  if (window.parent !== window && !follows) window.parent.postMessage({ moved: place() }, "*");
+}
+
+// Where an event is, as the command before it and how many events it stands behind that; and the event of such a place.
+const isCommand = at => !/^> (deliver|arrive) /.test(lines[starts[at]]);
+let commands = null;
+function place() {
+  let low = 0, high = commands.length;
+  while (high - low > 1) { const middle = (low + high) >> 1; if (commands[middle] <= event) low = middle; else high = middle; }
+  return [low, event - commands[low]];
+}
+function eventOf([command, behind]) {
+  if (command >= commands.length) return last;
+  return Math.min(commands[command] + behind, command + 1 < commands.length ? commands[command + 1] - 1 : last);
 }
 
 const address = () => `#event=${event}` + (chosen ? `&at=${encodeURIComponent(chosen)}` : "");
@@ -373,7 +388,7 @@ function nextChange(way) {
 }
 
 function nextCommand(way) {
-  for (let at = event + way; at > 0 && at <= last; at += way) if (!/^> (deliver|arrive) /.test(lines[starts[at]])) return at;
+  for (let at = event + way; at > 0 && at <= last; at += way) if (isCommand(at)) return at;
   return way > 0 ? last : 0;
 }
 
@@ -431,6 +446,7 @@ function listen() {
     if (found.ctrlKey || found.altKey || found.metaKey || /^(SELECT)$/.test(found.target.tagName) || found.key === " " && found.target.tagName === "BUTTON") return;
     if (KEYS[found.key]) { found.preventDefault(); if (found.key !== " ") stop(); KEYS[found.key](); }
   });
+  window.addEventListener("message", found => { if (found.source === window.parent && found.data && found.data.follow) go(eventOf(found.data.follow), true); });
   window.addEventListener("hashchange", fromAddress);
   window.addEventListener("resize", draw);
 }

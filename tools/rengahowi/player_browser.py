@@ -1,10 +1,9 @@
-#!/usr/bin/env python3
 """Opens the page of a run in a real browser and tries what a reader does with it.
 
-Usage: player_browser.py PAGE EVENT.. [--at WHAT..]
+Usage, in tools/: python3 -m rengahowi.player_browser PAGE EVENT.. [--at WHAT..]
 
 Prints JSON: what the page shows behind each of these events, by the state that it holds; where the keys and buttons lead; what is
-looked at once WHAT was chosen, each with its text; and what the browser says of faults. Needs python3-selenium and chromium-driver.
+looked at once WHAT was chosen, each with its text; and what the browser says of faults. Of a page of two runs: what both show. Needs python3-selenium and chromium-driver.
 """
 
 from __future__ import annotations
@@ -12,7 +11,7 @@ from __future__ import annotations
 import json
 import sys
 
-from browser import opened, waited_for
+from .browser import opened, waited_for
 
 TYPE_CHECKING = False
 if TYPE_CHECKING:
@@ -49,6 +48,25 @@ def changes(browser: Any, what: str) -> list[int]:
     return found[:-1]
 
 
+def moved_together(browser: Any, events: list[int]) -> list[list[str]]:
+    """What both pages of a pair show once the first one was moved to each of these events."""
+    frames = browser.find_elements("css selector", "iframe")
+
+    def shown(at: int, script: str = "") -> Any:
+        browser.switch_to.default_content()
+        browser.switch_to.frame(frames[at])
+        return browser.execute_script(script or "return document.getElementById('now').textContent")
+
+    waited_for(lambda: shown(0, OPEN) and shown(1, OPEN))
+    found = []
+    for event in events:
+        before = shown(1)
+        shown(0, f"go({event})")
+        waited_for(lambda: shown(1) != before)  # pylint: disable=cell-var-from-loop
+        found.append([shown(0), shown(1)])
+    return found
+
+
 def main() -> None:
     """Opens the page, tries it, and prints what it saw."""
     page, *words = sys.argv[1:]
@@ -56,6 +74,9 @@ def main() -> None:
     events, chosen = [int(word) for word in words[:split]], words[split + 1 :]
     browser = opened(page)
     try:
+        if browser.find_elements("css selector", "iframe"):
+            print(json.dumps({"both": moved_together(browser, events), "log": [line["message"] for line in browser.get_log("browser")]}))
+            return
         waited_for(lambda: browser.execute_script(OPEN))
         found: dict[str, Any] = {"states": [browser.execute_script(STATE, event) for event in events], "keys": keys(browser)}
         found["chosen"] = {what: browser.execute_script(CHOOSE, what) for what in chosen}

@@ -8,6 +8,7 @@ import json
 import pathlib
 
 from .colours import of_service
+from .embedding import as_script, as_text
 from .frames import follow
 from .network import UNTOLD, network_of
 from .program import decoded, with_note
@@ -72,10 +73,13 @@ def packed(plan: Plan, report: Report) -> str:
 
 def page(title: str, plan: Plan, report: Report) -> str:
     """The page, which is XML too: no text in it begins a tag or an entity."""
-    text = json.dumps(plan_rows(plan, report), separators=(",", ":"))
-    for sign in "<>&":
-        text = text.replace(sign, f"\\u{ord(sign):04x}")
-    title = title.replace("&", "&amp;").replace("<", "&lt;")
+    text = as_script(plan_rows(plan, report))
     made = with_note((FOLDER / "player.html").read_text(encoding="utf-8"))
     made = made.replace("@SCRIPT@", (FOLDER / "player.js").read_text(encoding="utf-8"))
-    return made.replace("@TITLE@", title).replace("@PLAN@", text).replace("@PACKED@", packed(plan, report))
+    return made.replace("@TITLE@", as_text(title)).replace("@PLAN@", text).replace("@PACKED@", packed(plan, report))
+
+
+def pair(titles: tuple[str, str], pages: tuple[str, str]) -> str:
+    """The page of two runs side by side, which move together."""
+    made = (FOLDER / "player_pair.html").read_text(encoding="utf-8")
+    return made.replace("@TITLE@", as_text(" against ".join(titles))).replace("@PAGES@", as_script(pages))

@@ -89,11 +89,13 @@ def in_browser(folder: pathlib.Path) -> Iterator[Any]:
     if python is None or not pathlib.Path("/usr/bin/chromedriver").exists():
         print("python3-selenium or chromium-driver is missing, and no player is opened in a browser")
         return
+    driver = [python, "-m", "rengahowi.player_browser"]
+    yield from side_by_side(folder, driver)
     for name, numbers in SHOWN.items():
         page, path = folder / f"{name}.html", EXAMPLES / f"{name}.toml"
         page.write_text(tool("player", path, EXAMPLES / f"{name}.txt")[1], encoding="utf-8")
         more = ["--at", *CHOSEN] if name == "old-way" else []
-        done = run([python, TOP / "tools" / "rengahowi" / "player_browser.py", page, *map(str, numbers), *more], folder, text=True)
+        done = run([*driver, page, *map(str, numbers), *more], TOP / "tools", text=True)
         seen = json.loads(done.stdout or "{}")
         at = AtEvent(str(path), "end")
         events = list(at.events)
@@ -109,6 +111,17 @@ def in_browser(folder: pathlib.Path) -> Iterator[Any]:
             chosen = seen.get("chosen", {})
             yield compare("player, a frame", "dropped at x: Down" in chosen.get("frame 3", ""), True)
             yield compare("player, a wire", "priority 10: standing by" in chosen.get("wire xa", ""), True)
+
+
+def side_by_side(folder: pathlib.Path, driver: list[Any]) -> Iterator[Any]:
+    """Two runs move together: to the same command, and as many events behind it."""
+    page, words = folder / "pair.html", (EXAMPLES / "old-way.toml", EXAMPLES / "old-way.txt", "--against", EXAMPLES / "spoke-moves.txt")
+    page.write_text(tool("player", *words, "--scenario", EXAMPLES / "spoke-moves.toml")[1], encoding="utf-8")
+    seen = json.loads(run([*driver, page, "5", "38"], TOP / "tools", text=True).stdout or "{}")
+    right = [["5: connect b x (of 48)", "5: connect b x (of 45)"], ["38: arrive 6 (of 48)", "43: arrive 6 (of 45)"]]
+    yield compare("player --against", (seen.get("both"), seen.get("log")), (right, []))
+    status, said, fault = tool("player", *words[:2], "--scenario", words[0])
+    yield compare("player --scenario alone", (status, said, "--against" in fault, fault.count("\n")), (1, "", True, 1))
 
 
 def refused(folder: pathlib.Path) -> Iterator[Any]:

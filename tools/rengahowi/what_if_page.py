@@ -8,6 +8,7 @@ import pathlib
 import zlib
 
 from .colours import of_service
+from .embedding import as_script, as_text
 from .ladder_rows import Rows, columns, lanes
 from .program import with_note
 from .report import Words, events_of
@@ -99,14 +100,6 @@ def number_events(events: list[Event], kept: Any, lines: list[str], before: Any)
         event.number = numbers[place]
 
 
-def script(found: dict[str, Any]) -> str:
-    """JSON in a page that is XML too: no text in it begins a tag or an entity."""
-    text = json.dumps(found, separators=(",", ":"))
-    for sign in "<>&":
-        text = text.replace(sign, f"\\u{ord(sign):04x}")
-    return text
-
-
 def part_of(base: Base, found: dict[str, Any], ladders: list[Any]) -> dict[str, Any]:
     """What the page has of a scenario."""
     plan = base.plan
@@ -124,8 +117,8 @@ def page(parts: list[dict[str, Any]]) -> str:
     """The page of one scenario, or of two side by side."""
     data = {"plans": parts, "page": with_note(LADDER.read_text(encoding="utf-8"))}
     text = with_note(PAGE.read_text(encoding="utf-8"))
-    title = " and ".join(part["scenario"] for part in parts).replace("&", "&amp;").replace("<", "&lt;")
-    return text.replace("@TITLE@", title).replace("@DATA@", script(data))
+    title = " and ".join(part["scenario"] for part in parts)
+    return text.replace("@TITLE@", as_text(title)).replace("@DATA@", as_script(data))
 
 
 def state_of(network: Network, lane: dict[str, Any]) -> str:
