@@ -4,6 +4,7 @@ const $ = id => document.getElementById(id);
 const safe = text => String(text).replace(/&/g, "&amp;").replace(/</g, "&lt;").replace(/>/g, "&gt;").replace(/"/g, "&quot;");
 const LINE = 18, MOST_LABELS = 30, FRAME_COLOURS = ["#1f6fb4", "#c65102", "#2a7f62", "#8a3ea8", "#a0741a", "#b02a4c", "#4a5a8c", "#5f6b1f"];
 const frameColour = frame => frame === "0" ? "#6b7c8c" : FRAME_COLOURS[(frame - 1) % FRAME_COLOURS.length];
+if (window.matchMedia("(prefers-color-scheme: dark)").matches) for (const name of Object.keys(plan.services)) plan.services[name] = `color-mix(in srgb, ${plan.services[name]} 55%, white)`;
 const wireOf = new Map(plan.wires.map(wire => [wire.name, wire]));
 const circuitOf = new Map(plan.circuits.map(circuit => [circuit.name, circuit]));
 const edgeOf = new Map(plan.edges.map(edge => [edge.name, edge]));
@@ -11,9 +12,11 @@ const edgeOf = new Map(plan.edges.map(edge => [edge.name, edge]));
 const isNarrow = window.innerWidth <= 700, isSmall = plan.edges.length <= 8;
 if (isNarrow && isSmall) pushTogether(0.55, 0.72);
 function pushTogether(across, up) {
-  for (const one of plan.circuits) { const edge = edgeOf.get(one.edge); one.x += edge.x * (across - 1); one.y += edge.y * (up - 1); }
+  for (const one of plan.circuits) { const edge = edgeOf.get(one.edge); one.x += edge.x * (across - 1); one.y += edge.y * (up - 1); } // as far from their edge as before
   for (const one of plan.edges) { one.x *= across; one.y *= up; }
-  plan.width *= across;
+  const half = 62, left = half - Math.min(...plan.edges.map(one => one.x));
+  for (const one of [...plan.edges, ...plan.circuits]) one.x += left;
+  plan.width = Math.max(...plan.edges.map(one => one.x)) + half;
   plan.height = Math.max(...[...plan.edges, ...plan.circuits].map(one => one.y)) + 30;
 }
 let steps, lines, begins, starts, was, state, cellAt, last, event = 0, chosen = "", timer = null;
@@ -262,7 +265,6 @@ function drawMap() {
 
 function drawLines() {
   const view = $("lines"), first = Math.max(0, Math.floor(view.scrollTop / LINE) - 5), count = Math.ceil(view.clientHeight / LINE) + 10;
-  $("room").style.height = lines.length * LINE + "px";
   $("rows").style.top = first * LINE + "px";
   $("rows").innerHTML = lines.slice(first, first + count).map((line, number) => {
     const at = first + number, own = at >= starts[event] && at < starts[event + 1], isEvent = line[0] === ">";
@@ -350,7 +352,7 @@ function drawState() {
   const [kind, ...name] = chosen.split(" ");
   if (STATES[kind]) { $("state").innerHTML = `<h2>${safe(chosen)}</h2>${STATES[kind](name.join(" "))}`; return; }
   const services = Object.keys(plan.services).filter(shown).map(service => [safe(service), safe(value(`calm ${service}`)), plan.wires.filter(wire => wire.service === service && stands(wire)[0] === "carries").length, plan.wires.filter(wire => wire.service === service).length]);
-  $("state").innerHTML = `<h2>the network</h2>${table(["service", "is", "wires that carry", "of"], services)}<p>${packets.size} packets under way, tick ${value("tick") || 0}. Click an edge, a wire, a circuit or a packet.</p>` +
+  $("state").innerHTML = `<h2>the network</h2>${table(["service", "is", "wires that carry", "of"], services)}<p>${packets.size} packet${packets.size === 1 ? "" : "s"} under way, tick ${value("tick") || 0}. Click an edge, a wire, a circuit or a packet.</p>` +
     `<p>Keys: left and right an event, Page Up and Page Down a command, Home and End, space plays, n and N the next and the last change of what is looked at, Escape the whole network, + and - the size of the picture.</p>`;
 }
 
@@ -426,6 +428,7 @@ function drawMarks() {
 function fill() {
   $("ending").textContent = plan.ending;
   $("slider").max = last;
+  $("room").style.height = lines.length * LINE + "px"; // before the first event is brought in view
   $("service").innerHTML = ["", ...Object.keys(plan.services)].map(name => `<option value="${safe(name)}">${safe(name) || "all"}</option>`).join("");
   const groups = { edges: plan.edges.map(one => "edge " + one.name), circuits: plan.circuits.map(one => "circuit " + one.name), wires: plan.wires.map(one => "wire " + one.name), frames: [...told.keys()].slice(0, 1000).map(one => "frame " + one) };
   $("chosen").innerHTML = `<option value="">the network</option>` + Object.entries(groups).map(([name, all]) => `<optgroup label="${name}">${all.map(one => `<option value="${safe(one)}">${safe(one)}</option>`).join("")}</optgroup>`).join("");

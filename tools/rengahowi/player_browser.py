@@ -29,6 +29,11 @@ return [found, document.getElementById("now").textContent, document.querySelecto
 """
 KEY = "document.dispatchEvent(new KeyboardEvent('keydown', {key: arguments[0], bubbles: true})); return event;"
 CHOOSE = "choose(arguments[0]); return document.getElementById('state').textContent;"
+# The event that the page is opened at, and whether its line is in view.
+IN_VIEW = """
+const row = document.querySelector("#rows .event.current"), view = document.getElementById("lines").getBoundingClientRect();
+return [event, row !== null && row.getBoundingClientRect().top >= view.top && row.getBoundingClientRect().bottom <= view.bottom];
+"""
 OPEN = "return document.body.dataset.open"
 
 
@@ -84,7 +89,7 @@ def main() -> None:
         browser.get("about:blank")
         browser.get(f"file://{page}#event={events[0]}")
         waited_for(lambda: browser.execute_script(OPEN))
-        found["opened"] = browser.execute_script("return event")
+        found["opened"] = browser.execute_script(IN_VIEW)
         found["log"] = [line["message"] for line in browser.get_log("browser")]
         print(json.dumps(found))
     finally:

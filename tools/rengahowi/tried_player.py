@@ -103,7 +103,7 @@ def in_browser(folder: pathlib.Path) -> Iterator[Any]:
             number for number, (state, *_) in zip(numbers, seen.get("states", ())) if as_tables(state) != tables_of(at, events, number)
         ]
         yield compare(f"player of {name} in a browser", (len(seen.get("states", ())), wrong), (len(numbers), []))
-        yield compare(f"player of {name}, opened at an event", (seen.get("opened"), seen.get("log")), (numbers[0], []))
+        yield compare(f"player of {name}, opened at an event", (seen.get("opened"), seen.get("log")), ([numbers[0], True], []))
         if more:
             yield compare("player, keys", seen.get("keys"), KEYS)
             yield compare("player, next change", seen.get("changes"), CHANGES)
