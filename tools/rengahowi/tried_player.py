@@ -23,7 +23,8 @@ EXAMPLES = TOP / "examples"
 # What is looked at behind which events, in the page: 20 of three runs; and of one of them what is chosen there.
 SHOWN = {"old-way": (38, 0, 3, 18, 22, 36, 40, 44, 48), "spoke-moves": (35, 8, 31, 38, 41, 45), "session-lost": (50, 20, 45, 55, 66)}
 CHOSEN = ("frame 3", "wire xa")
-# By hand: the frame enters, is passed on, and is dropped; the spoke comes up by eight events, and x moves away, which a then hears.
+# Counted in the report's own lines: the frame enters, is passed on, and is dropped; the spoke comes up from event 3 to 22, x moves away at 36,
+# and a hears of it at 40. The keys by the 48 events, of which 45 is the last frame.
 CHANGES = {"frame 3": [37, 38, 39], "wire xa": [3, 18, 19, 20, 21, 22, 36, 40]}
 KEYS = {"0 Home": 0, "1 ArrowRight": 1, "2 ArrowRight": 2, "3 ArrowLeft": 1, "4 PageDown": 2, "5 End": 48, "6 ArrowRight": 48, "7 PageUp": 45}
 OF_TABLES = ("session", "end", "told", "heard", "mac")
