@@ -205,13 +205,19 @@ function drawEdge(edge) {
     `<text x="${edge.x}" y="${edge.y - 3}" text-anchor="middle" font-weight="bold">${safe(edge.name)}</text><text class="small" x="${edge.x}" y="${edge.y + 12}" text-anchor="middle">${safe(edge.address)}</text></g>`;
 }
 
+// The line of a circuit to its edge, which lies below all boxes.
+function drawLead(circuit) {
+  const edge = edgeOf.get(circuit.edge), colour = value(`circuit ${circuit.name}`) === "on" ? plan.services[circuit.service] : "var(--pale)";
+  return `<line x1="${edge.x}" y1="${edge.y}" x2="${circuit.x}" y2="${circuit.y}" stroke="${colour}" stroke-width="1"/>`;
+}
+
 function drawCircuit(circuit, lit) {
-  const isOn = value(`circuit ${circuit.name}`) === "on", colour = isOn ? plan.services[circuit.service] : "var(--pale)", edge = edgeOf.get(circuit.edge);
+  const isOn = value(`circuit ${circuit.name}`) === "on", colour = isOn ? plan.services[circuit.service] : "var(--pale)";
   const text = circuit.name + (circuit.tag ? ` (VLAN ${circuit.tag})` : "") + (isOn ? "" : ", off"), wide = 7.4 * text.length + 12, picked = chosen === `circuit ${circuit.name}`;
   const frames = lit.get(circuit.name) || [];
-  const marks = frames.map(([frame, kind], at) => `<text class="halo" x="${circuit.x + wide / 2 + 6}" y="${circuit.y + 4 + 12 * at}" style="fill:${frameColour(frame)}">${kind === "in" ? "→ in" : "← out"} ${frame}</text>`).join("");
-  return `<line x1="${edge.x}" y1="${edge.y}" x2="${circuit.x}" y2="${circuit.y}" stroke="${colour}" stroke-width="1"/>` +
-    `<g class="pick circuit" data-pick="circuit ${safe(circuit.name)}"><rect x="${circuit.x - wide / 2}" y="${circuit.y - 10}" width="${wide}" height="20" rx="9" fill="${frames.length ? "var(--mark)" : "var(--ground)"}" stroke="${colour}" stroke-width="${picked ? 3 : 1.2}"/>` +
+  const isRight = circuit.x + wide / 2 + 60 > plan.width, beside = circuit.x + (isRight ? -1 : 1) * (wide / 2 + 6);
+  const marks = frames.map(([frame, kind], at) => `<text class="halo" x="${beside}" text-anchor="${isRight ? "end" : "start"}" y="${circuit.y + 4 + 12 * at}" style="fill:${frameColour(frame)}">${kind === "in" ? "→ in" : "← out"} ${frame}</text>`).join("");
+  return `<g class="pick circuit" data-pick="circuit ${safe(circuit.name)}"><rect x="${circuit.x - wide / 2}" y="${circuit.y - 10}" width="${wide}" height="20" rx="9" fill="${frames.length ? "var(--mark)" : "var(--ground)"}" stroke="${colour}" stroke-width="${picked ? 3 : 1.2}"/>` +
     `<text x="${circuit.x}" y="${circuit.y + 4}" text-anchor="middle" style="fill:${colour}">${safe(text)}</text>${marks}</g>`;
 }
 
@@ -259,7 +265,7 @@ function drawMap() {
   const box = `0 0 ${plan.width} ${plan.height}`;
   const size = sizeOf($("map"));
   $("map").innerHTML = `<svg style="${size}" xmlns="http://www.w3.org/2000/svg" viewBox="${box}" role="img" aria-label="the network behind event ${safe(words(event))}">` +
-    drawSessions(of, flash) + wires().map(wire => drawWire(of, flash, wire)).join("") + circuits.map(circuit => drawCircuit(circuit, lit)).join("") +
+    drawSessions(of, flash) + wires().map(wire => drawWire(of, flash, wire)).join("") + circuits.map(drawLead).join("") + circuits.map(circuit => drawCircuit(circuit, lit)).join("") +
     drawOctets(of) + plan.edges.map(drawEdge).join("") + drawPackets(of, flash) + drawDrops(drops) + "</svg>";
 }
 
