@@ -27,9 +27,11 @@ use Rattle.flight_laws.proofs.WholeMessageLemmas.{Happens, Moment, StandAll, aft
 use Rattle.flood_laws.specs.Reached.{is_reached}
 use Rattle.settle_laws.specs.Laws.{HasLabels}
 use Rattle.survey_laws.specs.declared.fault.Fault.TheVariants as fault
+use Rattle.survey_laws.specs.Cases.{IsTold, is_lost}
 use Rattle.survey_laws.specs.Faults.{faults_by}
 use Rattle.survey_laws.specs.Laws.{HasRested, RestedWindow}
 use Rattle.survey_laws.specs.Would.{would_core, would_serve}
+use Rattle.survey_laws.proofs.CaseLemmas.{changes_are_told}
 use Rattle.survey_laws.proofs.FloodLemmas.{floods_as_surveyed}
 use Rattle.survey_laws.proofs.RestLemmas.{rests_as_surveyed}
 
@@ -190,3 +192,28 @@ leaves_once = goes (circuit 1) ∙ ap (λ (b : Bool). cond {A = ℕ} b 1 0) (dec
 
 leaves_not : times_left (next_origin (network_after triangle (base ++ after))) (circuit 0) (run triangle events).entries ≡ 0
 leaves_not = goes (circuit 0) ∙ ap (λ (b : Bool). cond {A = ℕ} b 1 0) (decided 0 ∙ serves_not)
+
+-- ---- what is lost is told
+
+lost : is_lost triangle (reached comes_up) one_service (circuit 2) (circuit 0) (fault.Edge a ∷ []) ≡ true
+unfolding evaluated
+lost = refl
+
+its_case : IsTold (is_lost triangle (reached comes_up) one_service (circuit 2) (circuit 0)) (fault.Edge a ∷ [])
+its_case = (changes_are_told triangle (reached comes_up) (fault.Edge a ∷ []) one_service (circuit 2) (circuit 0)).0 lost
+
+-- with the connection of the other core edge to the spoke edge that one is lost too, by both faults and by neither alone
+both_lost : is_lost triangle (reached comes_up) one_service (circuit 2) (circuit 1) (fault.Session b x ∷ fault.Edge a ∷ []) ≡ true
+unfolding evaluated
+both_lost = refl
+
+their_case : IsTold (is_lost triangle (reached comes_up) one_service (circuit 2) (circuit 1)) (fault.Session b x ∷ fault.Edge a ∷ [])
+their_case = (changes_are_told triangle (reached comes_up) (fault.Session b x ∷ fault.Edge a ∷ []) one_service (circuit 2) (circuit 1)).0 both_lost
+
+not_by_one : is_lost triangle (reached comes_up) one_service (circuit 2) (circuit 1) (fault.Edge a ∷ []) ≡ false
+unfolding evaluated
+not_by_one = refl
+
+not_by_other : is_lost triangle (reached comes_up) one_service (circuit 2) (circuit 1) (fault.Session b x ∷ []) ≡ false
+unfolding evaluated
+not_by_other = refl

@@ -1,4 +1,5 @@
 mod Examples
+pub mod CaseLemmas
 pub mod ExactLemmas
 pub mod FaultLemmas
 pub mod FloodLemmas

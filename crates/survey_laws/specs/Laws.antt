@@ -23,6 +23,7 @@ use Rattle.settle_laws.specs.Laws.{HasLabels}
 use Rattle.settle_laws.specs.Sound.{is_sound}
 use Rattle.survey_laws.specs.declared.fault.Fault.{Fault}
 use Rattle.survey_laws.specs.declared.fault.Fault.TheVariants as fault
+use Rattle.survey_laws.specs.Cases.{IsTold, is_found, is_lost}
 use Rattle.survey_laws.specs.Faults.{all_take_or_pass, faults_by, is_circuit_taken, is_spoke_end_of, is_taken, number_after}
 use Rattle.survey_laws.specs.Would.{would_serve, would_sound}
 
@@ -87,3 +88,10 @@ SameFaults = (plan : Plan) (before : NetworkState) (one other : List Fault) → 
 abbrev pub CircuitAlone : Type 0
 CircuitAlone = (plan : Plan) (before : NetworkState) (faults : List Fault) (lost : CircuitId) (service : ServiceId) (sender circuit : CircuitId)
     → would_serve plan before (fault.Circuit lost ∷ faults) service sender circuit ≡ (would_serve plan before faults service sender circuit && not (circuit.0 == lost.0))
+
+-- what a case of several faults changes, a case of some of them was the first to change: where those are told that are the first to change
+-- something, each two sites that lose or find each other stand in one of them
+abbrev pub ChangesAreTold : Type 0
+ChangesAreTold = (plan : Plan) (before : NetworkState) (faults : List Fault) (service : ServiceId) (sender circuit : CircuitId)
+    → (is_lost plan before service sender circuit faults ≡ true → IsTold (is_lost plan before service sender circuit) faults)
+    × (is_found plan before service sender circuit faults ≡ true → IsTold (is_found plan before service sender circuit) faults)

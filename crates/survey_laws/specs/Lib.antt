@@ -1,3 +1,4 @@
+pub mod Cases
 pub mod Faults
 pub mod Laws
 pub mod Would

@@ -1,5 +1,5 @@
 //! What holds of faults in every run of the network.
-ghost use Rattle.survey_laws.specs.Laws.{CircuitAlone, FaultsAreExact, FloodsAsSurveyed, RestsAsSurveyed, SameFaults};
+ghost use Rattle.survey_laws.specs.Laws.{ChangesAreTold, CircuitAlone, FaultsAreExact, FloodsAsSurveyed, RestsAsSurveyed, SameFaults};
 
 /// Events that take something, a connection, a wire, an edge, the number of a spoke or a circuit, leave of the network exactly what their
 /// faults leave: in whatever state they come, be they applied or idle, in whatever order, and with whatever deliveries, frames, packets
@@ -33,4 +33,10 @@ pub fn same_faults()
 #[tactic(auto, using(crate::proofs::SameLemmas::circuit_alone))]
 pub fn circuit_alone()
     ensures { CircuitAlone }
+{}
+
+/// What a case of several faults changes, a case of some of them is the first to change: where two sites lose or find each other by all of
+/// the faults, they do so by some of them, and by no fewer of those.
+pub fn changes_are_told()
+    ensures { ChangesAreTold }
 {}

@@ -7,5 +7,6 @@ mod laws;
 
 pub use fault::Fault;
 pub use laws::{
-    circuit_alone, faults_are_exact, floods_as_surveyed, rests_as_surveyed, same_faults,
+    changes_are_told, circuit_alone, faults_are_exact, floods_as_surveyed, rests_as_surveyed,
+    same_faults,
 };
