@@ -26,6 +26,7 @@ use denote.Triple.Spec.{Meets, triple_of}
 use denote.Triple.Table.{entered}
 use denote.Triple.Walked.{says, Stays, stay_dropped, walk_of, ends_at, walk_Meets, Goes-dropped}
 use Rattle.net_base.proofs.LogWalks.{none, none_made}
+use Rattle.net_base.specs.outside.Outside.{unless_failed}
 use Rattle.net_base.specs.contracts.outside.read_log.ReadLog as ReadLog
 use Rattle.net_base.specs.contracts.outside.read.Read as Read
 use Rattle.net_base.specs.contracts.outside.read_log.ReadLog.with_read as F
@@ -61,7 +62,7 @@ module _ {M : Type 1} {𝓤 : Ura M} (𝓛 : Logic 𝓤) (at_mem : Memory → SP
         let vss = z.0.4 in
         let u : Val = vptr a.0.ref_ptr.0 a.0.ref_ptr.1 in
         let v : Val = vptr a.1.0.ref_ptr.0 a.1.0.ref_ptr.1 in
-        let log : (ReadLog.the_row).Denot = record { reads = a.0.now.reads ++ record { name = a.1.0.now.name.now; from = a.1.0.now.from; room = a.1.0.now.room } ∷ [] } in
+        let log : (ReadLog.the_row).Denot = record { reads = a.0.now.reads ++ record { name = a.1.0.now.name.now; from = a.1.0.now.from; room = a.1.0.now.room; answer = unless_failed a.1.0.now.failed a.1.0.now.octets.now } ∷ [] } in
         qed 𝓛 ((raw toks ⊛ ‵ (owns (types_at ended.signature.params z.0.0) a vss)) ∷ raw ((held z.0.0 a).requires z.1) ∷ []) ∵
         keep ! (0 ∷ []) $ split ! $ move ! (1 ∷ []) $ fsplit ! $ fsplit ! $ feq_l ! (λ is₀. drop ! $ fsplit ! $ fsplit ! $ feq_l ! (λ is₁. drop ! $ drop ! $
         regoal ! (λ (us : List Val). prop (WpFn 𝓤 H C Λ function (us ++ (vss.1.0 ++ [])) Post)) is₀ refl $
