@@ -25,7 +25,7 @@ use Rattle.edge_model.specs.State.{EdgeState, end_at}
 use Rattle.flight_laws.proofs.AcrossLemmas.{other_side}
 use Rattle.flight_laws.proofs.MendedRunLemmas.{IsMendedAt}
 use Rattle.flight_laws.proofs.PlaceLemmas.{IsEndOf}
-use Rattle.rest_laws.specs.Levels.{Saying, Binds, Withdraws, bits_of, hangs, is_above, label_stage, level, spoken, way_hangs}
+use Rattle.rest_laws.specs.Levels.{Saying, Binds, Withdraws, bits_of, hangs, is_above, label_stage, level, edges_spoken, way_hangs}
 use Rattle.rest_laws.proofs.DueLemmas.{IsDue}
 use Rattle.rest_laws.proofs.HearLemmas.{above_like, due_after, spoken_few}
 use Rattle.rest_laws.proofs.PutLemmas.{same_side, stands_at}
@@ -123,7 +123,7 @@ module _ (plan : Plan) (checked : IsChecked plan) (edges : ℕ → EdgeState) (m
 
   -- the level of what was heard at the end
   abbrev heard : ℕ
-  heard = label_stage (way_hangs edges q.wire.0 row q.peer.0 me.0) + (3 * spoken row q.peer.0 me.0 + c)
+  heard = label_stage (way_hangs edges q.wire.0 row q.peer.0 me.0) + (3 * edges_spoken row q.peer.0 me.0 + c)
 
   abbrev may : EndPlace → Saying → Bool
   may = is_above plan edges me.0 heard
@@ -137,18 +137,18 @@ module _ (plan : Plan) (checked : IsChecked plan) (edges : ℕ → EdgeState) (m
   onward : (to : ℕ) → mate_on row.path me.0 q.peer.0 ≡ Some (record { 0 = to }) → (heard < level edges q.wire.0 row me.0 to Binds) × (heard < level edges q.wire.0 row me.0 to Withdraws)
   onward to mated =
       let same : way_hangs edges q.wire.0 row me.0 to ≡ way_hangs edges q.wire.0 row q.peer.0 me.0 = same_way to mated in
-      let longer : spoken row me.0 to ≡ suc (spoken row q.peer.0 me.0) = spoken_next row.path me.0 q.peer.0 (record { 0 = to }) fit.once mated in (
-        rw (same, longer) (next_more_too (label_stage (way_hangs edges q.wire.0 row q.peer.0 me.0)) (spoken row q.peer.0 me.0) c small),
-        rw (same, longer) (next_more (label_stage (way_hangs edges q.wire.0 row q.peer.0 me.0)) (spoken row q.peer.0 me.0) c small),
+      let longer : edges_spoken row me.0 to ≡ suc (edges_spoken row q.peer.0 me.0) = spoken_next row.path me.0 q.peer.0 (record { 0 = to }) fit.once mated in (
+        rw (same, longer) (next_more_too (label_stage (way_hangs edges q.wire.0 row q.peer.0 me.0)) (edges_spoken row q.peer.0 me.0) c small),
+        rw (same, longer) (next_more (label_stage (way_hangs edges q.wire.0 row q.peer.0 me.0)) (edges_spoken row q.peer.0 me.0) c small),
       )
 
   -- the way back hangs, so that what came hangs on nothing
   back_more : way_hangs edges q.wire.0 row me.0 q.peer.0 ≡ true → (heard < level edges q.wire.0 row me.0 q.peer.0 Binds) × (heard < level edges q.wire.0 row me.0 q.peer.0 Withdraws)
   back_more hung =
       let free : way_hangs edges q.wire.0 row q.peer.0 me.0 ≡ false = other_way plan edges q.wire.0 row me.0 q.peer.0 fit q_is.joined hung in
-      let few : spoken row q.peer.0 me.0 ≤ 4 = spoken_few plan checked q.wire row q.peer.0 me.0 q_is.is (sym (joins_turned row.path me.0 q.peer.0) ∙ q_is.joined) in (
-        rw (hung, free) (hung_more (spoken row q.peer.0 me.0) (3 * spoken row me.0 q.peer.0 + 2) c small few),
-        rw (hung, free) (hung_more (spoken row q.peer.0 me.0) (3 * spoken row me.0 q.peer.0) c small few),
+      let few : edges_spoken row q.peer.0 me.0 ≤ 4 = spoken_few plan checked q.wire row q.peer.0 me.0 q_is.is (sym (joins_turned row.path me.0 q.peer.0) ∙ q_is.joined) in (
+        rw (hung, free) (hung_more (edges_spoken row q.peer.0 me.0) (3 * edges_spoken row me.0 q.peer.0 + 2) c small few),
+        rw (hung, free) (hung_more (edges_spoken row q.peer.0 me.0) (3 * edges_spoken row me.0 q.peer.0) c small few),
       )
 
   module _ (old new : EdgeState) (mended : IsMendedAt plan me.0 old) (other : HoldsOther q old new) (steady : q.terminal ≡ true → way_hangs edges q.wire.0 row me.0 q.peer.0 ≡ false

@@ -55,7 +55,7 @@ use Rattle.flight_laws.proofs.MendedRunLemmas.{IsMendedAt}
 use Rattle.flight_laws.proofs.PassingLemmas.{wire_end_is}
 use Rattle.flight_laws.proofs.PlaceLemmas.{IsEndOf, all-map, find_holds, places_are}
 use Rattle.flood_laws.proofs.LinkLemmas.{none_at}
-use Rattle.rest_laws.specs.Levels.{Saying, Clears, address_stage, is_above, level, spoken}
+use Rattle.rest_laws.specs.Levels.{Saying, Clears, address_stage, is_above, level, edges_spoken}
 use Rattle.rest_laws.proofs.DueLemmas.{PutsMore}
 use Rattle.rest_laws.proofs.HearLemmas.{above_is, spoken_few}
 use Rattle.rest_laws.proofs.PutLemmas.{HasPut, HasSaid, WishesAlike, put_then, puts_not, puts_then, says_puts, some_alike, stands_alike}
@@ -203,7 +203,7 @@ module _ (plan : Plan) (checked : IsChecked plan) (edges : ℕ → EdgeState) (m
   abbrev may : EndPlace → Saying → Bool
   may = is_above plan edges me.0 least
 
-  few : spoken row q.peer.0 me.0 ≤ 4
+  few : edges_spoken row q.peer.0 me.0 ≤ 4
   few = spoken_few plan checked q.wire row q.peer.0 me.0 q_is.is (sym (joins_turned row.path me.0 q.peer.0) ∙ q_is.joined)
 
   -- ---- at a switching point
@@ -217,8 +217,8 @@ module _ (plan : Plan) (checked : IsChecked plan) (edges : ℕ → EdgeState) (m
         let w : place.wire.0 ≡ q.wire.0 = sym (eqb-true q.wire.0 place.wire.0 (first_holds (nat_eq q.wire.0 place.wire.0) (nat_eq to.0 place.peer.0) one.passes)) in
         let k : to.0 ≡ place.peer.0 = eqb-true to.0 place.peer.0 (second_holds (nat_eq q.wire.0 place.wire.0) (nat_eq to.0 place.peer.0) one.passes) in
         let way : follows row.path me.0 to.0 ≡ follows row.path q.peer.0 me.0 = way_kept row.path me.0 q.peer.0 to fit.once at in
-        let longer : spoken row me.0 to.0 ≡ suc (spoken row q.peer.0 me.0) = spoken_next row.path me.0 q.peer.0 to fit.once at in
-        let more : least < level edges q.wire.0 row me.0 to.0 Clears = rw (longer, way) (one_more (address_stage (is_mesh_class row.class) (follows row.path q.peer.0 me.0)) (spoken row q.peer.0 me.0)) in
+        let longer : edges_spoken row me.0 to.0 ≡ suc (edges_spoken row q.peer.0 me.0) = spoken_next row.path me.0 q.peer.0 to fit.once at in
+        let more : least < level edges q.wire.0 row me.0 to.0 Clears = rw (longer, way) (one_more (address_stage (is_mesh_class row.class) (follows row.path q.peer.0 me.0)) (edges_spoken row q.peer.0 me.0)) in
         (one.holds, Rattle.rest_laws.proofs.HearLemmas.above_like plan edges me least place q.wire.0 to.0 row Clears w (sym k) q_is.is more)
 
   -- ---- at a core edge of the service
@@ -244,12 +244,12 @@ module _ (plan : Plan) (checked : IsChecked plan) (edges : ℕ → EdgeState) (m
         ap (λ (b : Bool). b || follows row.path q.peer.0 me.0) (sym (last_goes row.path me.0 q.peer.0 fit.once last)) ∙ (sym (joins_is row.path me.0 q.peer.0) ∙ q_is.joined)
 
     low_spoke : is_mesh_class row.class ≡ false → least ≤ 68
-    low_spoke spoke = subst (λ (s : ℕ). s + spoken row q.peer.0 me.0 ≤ 68) (sym (stage_is spoke (came_onward spoke))) (spoke_low (spoken row q.peer.0 me.0) few)
+    low_spoke spoke = subst (λ (s : ℕ). s + edges_spoken row q.peer.0 me.0 ≤ 68) (sym (stage_is spoke (came_onward spoke))) (spoke_low (edges_spoken row q.peer.0 me.0) few)
 
     low : least ≤ 84
     low = by (is_mesh_class row.class) refl where
       by : (b : Bool) → is_mesh_class row.class ≡ b → least ≤ 84
-      by true mesh = subst (λ (m : Bool). address_stage m (follows row.path q.peer.0 me.0) + spoken row q.peer.0 me.0 ≤ 84) (sym mesh) (mesh_low (spoken row q.peer.0 me.0) few)
+      by true mesh = subst (λ (m : Bool). address_stage m (follows row.path q.peer.0 me.0) + edges_spoken row q.peer.0 me.0 ≤ 84) (sym mesh) (mesh_low (edges_spoken row q.peer.0 me.0) few)
       by false spoke = lower least (low_spoke spoke)
 
     -- the terminal end of a wire
@@ -273,8 +273,8 @@ module _ (plan : Plan) (checked : IsChecked plan) (edges : ℕ → EdgeState) (m
     mesh_above spoke wire wired place found =
         let end : IsEndAt place wire.0 wired.row = end_of_wire wire wired.row place wired.is found in
         let mesh : is_mesh_class end.here.row.class ≡ true = ap (λ (r : WirePlan). is_mesh_class r.class) end.rows ∙ wired.class in
-        above_is plan edges me least place end.here.row Clears end.here.is (subst (λ (m : Bool). least < address_stage m (follows end.here.row.path me.0 place.peer.0) + spoken end.here.row me.0 place.peer.0) (sym mesh)
-        (to_mesh least (spoken end.here.row me.0 place.peer.0) (low_spoke spoke)))
+        above_is plan edges me least place end.here.row Clears end.here.is (subst (λ (m : Bool). least < address_stage m (follows end.here.row.path me.0 place.peer.0) + edges_spoken end.here.row me.0 place.peer.0) (sym mesh)
+        (to_mesh least (edges_spoken end.here.row me.0 place.peer.0) (low_spoke spoke)))
 
     spoke_above : (wire : WireId) → IsWired plan.wires row.service me false wire.0 → (place : EndPlace) → wire_end plan me wire ≡ Some place → may place Clears ≡ true
     spoke_above wire wired place found =
@@ -285,7 +285,7 @@ module _ (plan : Plan) (checked : IsChecked plan) (edges : ℕ → EdgeState) (m
         let last : is_last me.0 end.here.row.path ≡ true = ap (λ (b : Bool). b || is_last me.0 end.here.row.path) (sym inner) ∙ (sym end.here.terminal ∙ end.ends) in
         let fits : IsWireOf plan end.here.row = row_holds (IsWireOf plan) plan.wires place.wire.0 end.here.row end.here.is checked.wires in
         let off : follows end.here.row.path me.0 place.peer.0 ≡ false = last_goes end.here.row.path me.0 place.peer.0 fits.once last in
-        above_is plan edges me least place end.here.row Clears end.here.is (subst (λ (s : ℕ). least < s + spoken end.here.row me.0 place.peer.0) (sym (stage_is spoke off)) (to_spoke least (spoken end.here.row me.0 place.peer.0) low))
+        above_is plan edges me least place end.here.row Clears end.here.is (subst (λ (s : ℕ). least < s + edges_spoken end.here.row me.0 place.peer.0) (sym (stage_is spoke off)) (to_spoke least (edges_spoken end.here.row me.0 place.peer.0) low))
 
     -- the port by which it came is a mesh wire's where its wire is one
     from_class : (from : ℕ) → Rattle.std.specs.Prelude.position (is_wire_port q.wire) (ports_of plan row.service me) ≡ Some from → is_mesh_port (ports_of plan row.service me) from ≡ is_mesh_class row.class

@@ -33,7 +33,7 @@ use Rattle.edge_model.proofs.MendedLemmas.{end_put}
 use Rattle.network_model.specs.Absorb.{taken_all}
 use Rattle.flight_laws.proofs.MendedRunLemmas.{IsMendedAt}
 use Rattle.flight_laws.proofs.PlaceLemmas.{IsEndOf, NamedEnd, end_of, find_holds, named_is}
-use Rattle.rest_laws.specs.Levels.{Saying, Binds, Withdraws, Releases, States, Clears, address_stage, is_above, is_higher, label_stage, level, level_by, spoken, status_stage, way_hangs}
+use Rattle.rest_laws.specs.Levels.{Saying, Binds, Withdraws, Releases, States, Clears, address_stage, is_above, is_higher, label_stage, level, level_by, edges_spoken, status_stage, way_hangs}
 use Rattle.rest_laws.proofs.DueLemmas.{IsDue, PutsMore}
 use Rattle.flight_laws.proofs.WorksLemmas.{changed_edge}
 use Rattle.rest_laws.proofs.PutLemmas.{WishesAlike, changed_effects, end_else, mending_puts_due, remote_put, same_side, some_alike, stands_alike, stands_at}
@@ -198,10 +198,10 @@ stage_small false = omega arith
 stage_small true = omega arith
 
 -- so many edges at most have spoken
-pub spoken_few : (plan : Plan) (checked : IsChecked plan) (wire : WireId) (row : WirePlan) (a b : ℕ) → wire_row plan wire ≡ Some row → joins a b row.path ≡ true → spoken row a b ≤ 4
+pub spoken_few : (plan : Plan) (checked : IsChecked plan) (wire : WireId) (row : WirePlan) (a b : ℕ) → wire_row plan wire ≡ Some row → joins a b row.path ≡ true → edges_spoken row a b ≤ 4
 spoken_few plan checked wire row a b is joined =
     let fit : IsWireOf plan row = row_holds (IsWireOf plan) plan.wires wire.0 row is checked.wires in
-    few (spoken row a b) (length row.path) (spoken_short row.path a b fit.once joined) fit.most
+    few (edges_spoken row a b) (length row.path) (spoken_short row.path a b fit.once joined) fit.most
   where
     few : (n path : ℕ) → suc n ≤ path → path ≤ 5 → n ≤ 4
     few n path h k = omega (arith, h, k)
@@ -223,10 +223,10 @@ module _ (plan : Plan) (edges : ℕ → EdgeState) (me : EdgeId) (least : ℕ) w
 
   -- statuses and addresses are above labels
   pub states_above : least ≤ 30 → (p : EndPlace) → IsEndOf plan me p → is_above plan edges me.0 least p States ≡ true
-  states_above low p here = above_is p here.row States here.is (states_far (not (is_mesh_class here.row.class) && follows here.row.path me.0 p.peer.0) (spoken here.row me.0 p.peer.0) least low)
+  states_above low p here = above_is p here.row States here.is (states_far (not (is_mesh_class here.row.class) && follows here.row.path me.0 p.peer.0) (edges_spoken here.row me.0 p.peer.0) least low)
 
   pub clears_above : least ≤ 30 → (p : EndPlace) → IsEndOf plan me p → is_above plan edges me.0 least p Clears ≡ true
-  clears_above low p here = above_is p here.row Clears here.is (clears_far (is_mesh_class here.row.class) (follows here.row.path me.0 p.peer.0) (spoken here.row me.0 p.peer.0) least low)
+  clears_above low p here = above_is p here.row Clears here.is (clears_far (is_mesh_class here.row.class) (follows here.row.path me.0 p.peer.0) (edges_spoken here.row me.0 p.peer.0) least low)
 
   -- another place of the same wire, beside the same peer
   pub above_like : (p : EndPlace) (wire peer : ℕ) (row : WirePlan) (saying : Saying) → p.wire.0 ≡ wire → p.peer.0 ≡ peer → wire_row plan (record { 0 = wire }) ≡ Some row
@@ -258,7 +258,7 @@ release_rises plan checked edges me peer fec label place work mended named here 
     (ap (λ (e : EdgeState). e.me) edge_is ∙ (releasing_me label place work.edge ∙ mended.me))
     (subst (IsDue plan me (is_above plan edges me.0 least)) (sym edge_is)
     (release_due plan checked me (is_above plan edges me.0 least) work.edge mended label place
-    (λ p at w k. above_like plan edges me least p place.wire.0 place.peer.0 here.row Binds w k here.is (release_more (label_stage (way_hangs edges place.wire.0 here.row me.0 place.peer.0)) (spoken here.row me.0 place.peer.0)))))
+    (λ p at w k. above_like plan edges me least p place.wire.0 place.peer.0 here.row Binds w k here.is (release_more (label_stage (way_hangs edges place.wire.0 here.row me.0 place.peer.0)) (edges_spoken here.row me.0 place.peer.0)))))
     (states_above plan edges me least low) (clears_above plan edges me least low))
   where
     change : EdgeState → EdgeState
@@ -271,7 +271,7 @@ release_rises plan checked edges me peer fec label place work mended named here 
     least = level edges place.wire.0 here.row place.peer.0 me.0 Releases
 
     low : least ≤ 30
-    low = release_small (label_stage (way_hangs edges place.wire.0 here.row me.0 place.peer.0)) (spoken here.row me.0 place.peer.0)
+    low = release_small (label_stage (way_hangs edges place.wire.0 here.row me.0 place.peer.0)) (edges_spoken here.row me.0 place.peer.0)
         (stage_small (way_hangs edges place.wire.0 here.row me.0 place.peer.0)) (spoken_few plan checked place.wire here.row me.0 place.peer.0 here.is here.joined)
 
     edge_is : heard.edge ≡ releasing label place work.edge

@@ -6,6 +6,7 @@ pub mod DeliverLemmas
 pub mod DueLemmas
 pub mod Examples
 pub mod HearLemmas
+pub mod LayerLemmas
 pub mod PutLemmas
 pub mod RiseLemmas
 pub mod StatedLemmas

@@ -47,7 +47,7 @@ use Rattle.flight_laws.specs.Rules.{FarTells, TellsExpected, TellsOfWire}
 use Rattle.flight_laws.proofs.MendedRunLemmas.{IsMendedAt}
 use Rattle.flight_laws.proofs.PlaceLemmas.{IsEndOf, IsNamed, NamedEnd, end_of, named_is}
 use Rattle.flight_laws.proofs.WorksLemmas.{changed_edge}
-use Rattle.rest_laws.specs.Levels.{Saying, Binds, Withdraws, Releases, States, Clears, address_stage, label_stage, levels_end, spoken, status_stage, way_hangs, is_above, is_higher, level, level_at, level_by, level_of, pw_id_of, saying_of}
+use Rattle.rest_laws.specs.Levels.{Saying, Binds, Withdraws, Releases, States, Clears, address_stage, label_stage, levels_end, edges_spoken, status_stage, way_hangs, is_above, is_higher, level, level_at, level_by, level_of, pw_id_of, saying_of}
 use Rattle.rest_laws.proofs.DueLemmas.{PutsMore, PutsWell}
 use Rattle.rest_laws.specs.Rises.{AreSaidAt, HearingLightens, HearingRises, HoldsByPlan, IsByPlan, PutsAbove, left_above, put_most, said_count}
 use Rattle.rest_laws.proofs.BindLemmas.{HoldsOther, tells_by}
@@ -354,12 +354,12 @@ clears_below true onward n few = omega (arith, few)
 clears_below false true n few = omega (arith, few)
 clears_below false false n few = omega (arith, few)
 
-level_below : (edges : ℕ → EdgeState) (wire : ℕ) (row : WirePlan) (from to : ℕ) (saying : Saying) → spoken row from to ≤ 4 → spoken row to from ≤ 4 → level edges wire row from to saying < levels_end
-level_below edges wire row from to Binds on back = label_below (label_stage (way_hangs edges wire row from to)) (spoken row from to) 2 (label_stage_low (way_hangs edges wire row from to)) on (omega arith)
-level_below edges wire row from to Withdraws on back = withdraws_below (label_stage (way_hangs edges wire row from to)) (spoken row from to) (label_stage_low (way_hangs edges wire row from to)) on
-level_below edges wire row from to Releases on back = label_below (label_stage (way_hangs edges wire row to from)) (spoken row to from) 1 (label_stage_low (way_hangs edges wire row to from)) back (omega arith)
-level_below edges wire row from to States on back = states_below (not (is_mesh_class row.class) && follows row.path from to) (spoken row from to) on
-level_below edges wire row from to Clears on back = clears_below (is_mesh_class row.class) (follows row.path from to) (spoken row from to) on
+level_below : (edges : ℕ → EdgeState) (wire : ℕ) (row : WirePlan) (from to : ℕ) (saying : Saying) → edges_spoken row from to ≤ 4 → edges_spoken row to from ≤ 4 → level edges wire row from to saying < levels_end
+level_below edges wire row from to Binds on back = label_below (label_stage (way_hangs edges wire row from to)) (edges_spoken row from to) 2 (label_stage_low (way_hangs edges wire row from to)) on (omega arith)
+level_below edges wire row from to Withdraws on back = withdraws_below (label_stage (way_hangs edges wire row from to)) (edges_spoken row from to) (label_stage_low (way_hangs edges wire row from to)) on
+level_below edges wire row from to Releases on back = label_below (label_stage (way_hangs edges wire row to from)) (edges_spoken row to from) 1 (label_stage_low (way_hangs edges wire row to from)) back (omega arith)
+level_below edges wire row from to States on back = states_below (not (is_mesh_class row.class) && follows row.path from to) (edges_spoken row from to) on
+level_below edges wire row from to Clears on back = clears_below (is_mesh_class row.class) (follows row.path from to) (edges_spoken row from to) on
 
 fewer_left : (least level : ℕ) → least < level → least < levels_end → left_above level < left_above least
 fewer_left least level above low = omega (arith, above, low)

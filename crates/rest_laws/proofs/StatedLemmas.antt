@@ -47,7 +47,7 @@ use Rattle.edge_model.specs.State.{EdgeState, end_at, with_chosen}
 use Rattle.flight_laws.proofs.AcrossLemmas.{other_side}
 use Rattle.flight_laws.proofs.MendedRunLemmas.{IsMendedAt}
 use Rattle.flight_laws.proofs.PlaceLemmas.{IsEndOf, NamedEnd, all-map, end_of, find_holds, named_is, places_are}
-use Rattle.rest_laws.specs.Levels.{Clears, States, address_stage, is_above, level, spoken, status_stage}
+use Rattle.rest_laws.specs.Levels.{Clears, States, address_stage, is_above, level, edges_spoken, status_stage}
 use Rattle.rest_laws.proofs.BindLemmas.{HoldsOther, WishStays, stays_passing, stays_terminal, tells_by, wish_passing}
 use Rattle.rest_laws.proofs.HearLemmas.{above_is, above_like, mended_here, spoken_few}
 use Rattle.rest_laws.proofs.PutLemmas.{same_side, stands_at}
@@ -94,7 +94,7 @@ cleared_far false false n least low = omega (arith, low)
 
 -- withdrawals of addresses are above statuses from core edges
 clears_over : (plan : Plan) (edges : ℕ → EdgeState) (me : EdgeId) (least : ℕ) → least ≤ 36 → (p : EndPlace) → IsEndOf plan me p → is_above plan edges me.0 least p Clears ≡ true
-clears_over plan edges me least low p here = above_is plan edges me least p here.row Clears here.is (cleared_far (is_mesh_class here.row.class) (follows here.row.path me.0 p.peer.0) (spoken here.row me.0 p.peer.0) least low)
+clears_over plan edges me least low p here = above_is plan edges me least p here.row Clears here.is (cleared_far (is_mesh_class here.row.class) (follows here.row.path me.0 p.peer.0) (edges_spoken here.row me.0 p.peer.0) least low)
 
 module _ (plan : Plan) (checked : IsChecked plan) (edges : ℕ → EdgeState) (me : EdgeId) (q : EndPlace) (q_is : IsEndOf plan me q) (old new : EdgeState) (mended : IsMendedAt plan me.0 old) (other : HoldsOther q old new) (status : PwStatus) (stated_is : (end_at new q).remote
     ≡ status_part status (end_at old q).remote) (steady : q.terminal ≡ true → tells_by q_is.row old.me (old.bits q.wire.0) (end_at new q).remote ≡ tells_by q_is.row old.me (old.bits q.wire.0) (end_at old q).remote) where
@@ -184,8 +184,8 @@ module _ (plan : Plan) (checked : IsChecked plan) (edges : ℕ → EdgeState) (m
   status_onward to mated =
       let fit : IsWireOf plan q_is.row = row_holds (IsWireOf plan) plan.wires q.wire.0 q_is.row q_is.is checked.wires in
       let way : follows q_is.row.path me.0 to ≡ follows q_is.row.path q.peer.0 me.0 = way_kept q_is.row.path me.0 q.peer.0 (record { 0 = to }) fit.once mated in
-      let longer : spoken q_is.row me.0 to ≡ suc (spoken q_is.row q.peer.0 me.0) = spoken_next q_is.row.path me.0 q.peer.0 (record { 0 = to }) fit.once mated in
-      rw (longer, way) (one_more (status_stage (not (is_mesh_class q_is.row.class) && follows q_is.row.path q.peer.0 me.0)) (spoken q_is.row q.peer.0 me.0))
+      let longer : edges_spoken q_is.row me.0 to ≡ suc (edges_spoken q_is.row q.peer.0 me.0) = spoken_next q_is.row.path me.0 q.peer.0 (record { 0 = to }) fit.once mated in
+      rw (longer, way) (one_more (status_stage (not (is_mesh_class q_is.row.class) && follows q_is.row.path q.peer.0 me.0)) (edges_spoken q_is.row q.peer.0 me.0))
     where
       one_more : (stage n : ℕ) → stage + n < stage + suc n
       one_more stage n = omega arith
@@ -317,7 +317,7 @@ module _ (plan : Plan) (checked : IsChecked plan) (edges : ℕ → EdgeState) (m
     -- the status came from a core edge, or by a mesh wire: whatever spoke edges tell is above
     module _ (below : not (is_mesh_class q_is.row.class) && follows q_is.row.path q.peer.0 me.0 ≡ false) where
       low : least ≤ 36
-      low = rw below (stage_low (spoken q_is.row q.peer.0 me.0) (spoken_few plan checked q.wire q_is.row q.peer.0 me.0 q_is.is (sym (joins_turned q_is.row.path me.0 q.peer.0) ∙ q_is.joined)))
+      low = rw below (stage_low (edges_spoken q_is.row q.peer.0 me.0) (spoken_few plan checked q.wire q_is.row q.peer.0 me.0 q_is.is (sym (joins_turned q_is.row.path me.0 q.peer.0) ∙ q_is.joined)))
 
       spoke_above : (p : EndPlace) → (here : IsEndOf plan me p) → p.terminal ≡ true → is_mesh_class here.row.class ≡ false → is_last me.0 here.row.path ≡ false → is_above plan edges me.0 least p States ≡ true
       spoke_above p here terminal mesh last =
@@ -326,7 +326,7 @@ module _ (plan : Plan) (checked : IsChecked plan) (edges : ℕ → EdgeState) (m
           let on : follows here.row.path me.0 p.peer.0 ≡ true = first_goes here.row.path me.0 p.peer.0 fit.once first here.joined in
           let stage : not (is_mesh_class here.row.class) && follows here.row.path me.0 p.peer.0 ≡ true = rw (mesh, on) refl in
           above_is plan edges me least p here.row States here.is
-          (subst (λ (t : Bool). least < status_stage t + spoken here.row me.0 p.peer.0) (sym stage) (spoke_far least (spoken here.row me.0 p.peer.0) low))
+          (subst (λ (t : Bool). least < status_stage t + edges_spoken here.row me.0 p.peer.0) (sym stage) (spoke_far least (edges_spoken here.row me.0 p.peer.0) low))
 
       pub stated_below : (work : Work) → work.edge ≡ new → PutsMore plan me (is_above plan edges me.0 least) work.effects (mends plan taken_all work).effects
       stated_below work is =

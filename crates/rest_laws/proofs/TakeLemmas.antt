@@ -33,7 +33,7 @@ use Rattle.network_model.specs.Absorb.{taken_all}
 use Rattle.flight_laws.specs.Rules.{FarTells}
 use Rattle.flight_laws.proofs.MendedRunLemmas.{IsMendedAt}
 use Rattle.flight_laws.proofs.PlaceLemmas.{IsEndOf, named_is}
-use Rattle.rest_laws.specs.Levels.{Saying, Binds, Withdraws, Releases, bits_of, hangs, is_above, label_stage, level, spoken, way_hangs}
+use Rattle.rest_laws.specs.Levels.{Saying, Binds, Withdraws, Releases, bits_of, hangs, is_above, label_stage, level, edges_spoken, way_hangs}
 use Rattle.rest_laws.proofs.DueLemmas.{PutsMore}
 use Rattle.rest_laws.proofs.BindLemmas.{HoldsOther, other_due, tells_by}
 use Rattle.rest_laws.proofs.HearLemmas.{above_is, clears_above, spoken_few, states_above}
@@ -179,17 +179,17 @@ pw_named plan me peer q None e = absurd (cc (e))
 pw_named plan me peer q (Some n) e = ap (λ (m : ℕ). Some m) (sym (named_is plan me peer n q e).pw_id_is)
 
 module _ (plan : Plan) (checked : IsChecked plan) (edges : ℕ → EdgeState) (me : EdgeId) (q : EndPlace) (q_is : IsEndOf plan me q) where
-  low : (c : ℕ) → c ≤ 2 → label_stage (way_hangs edges q.wire.0 q_is.row q.peer.0 me.0) + (3 * spoken q_is.row q.peer.0 me.0 + c) ≤ 30
-  low c small = heard_small (label_stage (way_hangs edges q.wire.0 q_is.row q.peer.0 me.0)) (spoken q_is.row q.peer.0 me.0) c (stage_small (way_hangs edges q.wire.0 q_is.row q.peer.0 me.0))
+  low : (c : ℕ) → c ≤ 2 → label_stage (way_hangs edges q.wire.0 q_is.row q.peer.0 me.0) + (3 * edges_spoken q_is.row q.peer.0 me.0 + c) ≤ 30
+  low c small = heard_small (label_stage (way_hangs edges q.wire.0 q_is.row q.peer.0 me.0)) (edges_spoken q_is.row q.peer.0 me.0) c (stage_small (way_hangs edges q.wire.0 q_is.row q.peer.0 me.0))
       (spoken_few plan checked q.wire q_is.row q.peer.0 me.0 q_is.is (sym (Rattle.net_base.proofs.PathLemmas.joins_turned q_is.row.path me.0 q.peer.0) ∙ q_is.joined)) small
 
   -- an edge that holds another binding at one end mends
   rises : (c : ℕ) (small : c ≤ 2) (old : EdgeState) (work : Work) → IsMendedAt plan me.0 old → HoldsOther q old work.edge
       → (q.terminal ≡ true → way_hangs edges q.wire.0 q_is.row me.0 q.peer.0 ≡ false
       → tells_by q_is.row old.me (old.bits q.wire.0) (end_at work.edge q).remote ≡ tells_by q_is.row old.me (old.bits q.wire.0) (end_at old q).remote)
-      → PutsMore plan me (is_above plan edges me.0 (label_stage (way_hangs edges q.wire.0 q_is.row q.peer.0 me.0) + (3 * spoken q_is.row q.peer.0 me.0 + c))) work.effects (mends plan taken_all work).effects
+      → PutsMore plan me (is_above plan edges me.0 (label_stage (way_hangs edges q.wire.0 q_is.row q.peer.0 me.0) + (3 * edges_spoken q_is.row q.peer.0 me.0 + c))) work.effects (mends plan taken_all work).effects
   rises c small old work mended other steady =
-      let least : ℕ = label_stage (way_hangs edges q.wire.0 q_is.row q.peer.0 me.0) + (3 * spoken q_is.row q.peer.0 me.0 + c) in
+      let least : ℕ = label_stage (way_hangs edges q.wire.0 q_is.row q.peer.0 me.0) + (3 * edges_spoken q_is.row q.peer.0 me.0 + c) in
       mending_puts_due plan me (is_above plan edges me.0 least) work (other.me ∙ mended.me) (other_due plan checked edges me q q_is c small old work.edge mended other steady)
       (states_above plan edges me least (low c small)) (clears_above plan edges me least (low c small))
 
@@ -234,14 +234,14 @@ module _ (plan : Plan) (checked : IsChecked plan) (edges : ℕ → EdgeState) (m
       → tells_by q_is.row work.edge.me (work.edge.bits q.wire.0) (unbound label (end_at work.edge q)).remote ≡ tells_by q_is.row work.edge.me (work.edge.bits q.wire.0) (end_at work.edge q).remote)
       → PutsMore plan me (is_above plan edges me.0 (level edges q.wire.0 q_is.row q.peer.0 me.0 Withdraws)) work.effects (mends plan taken_all (hears_withdraw plan taken_all q.peer fec label work)).effects
   withdraw_rises fec label work mended named steady =
-      subst (λ (n : ℕ). PutsMore plan me (is_above plan edges me.0 n) work.effects (mends plan taken_all next).effects) (no_more_than (label_stage (way_hangs edges q.wire.0 q_is.row q.peer.0 me.0)) (3 * spoken q_is.row q.peer.0 me.0))
+      subst (λ (n : ℕ). PutsMore plan me (is_above plan edges me.0 n) work.effects (mends plan taken_all next).effects) (no_more_than (label_stage (way_hangs edges q.wire.0 q_is.row q.peer.0 me.0)) (3 * edges_spoken q_is.row q.peer.0 me.0))
       (subst (λ (es : List Effect). PutsMore plan me may es (mends plan taken_all next).effects) begun_effects
       (puts_then plan me may begun.effects next.effects (mends plan taken_all next).effects said.puts
       (rises 0 (omega arith) work.edge next mended (said_other q work.edge begun.edge next.edge begun_other said.put)
       (λ terminal free. ap (tells_by q_is.row work.edge.me (work.edge.bits q.wire.0)) remote_is ∙ steady terminal free))))
     where
       may : EndPlace → Saying → Bool
-      may = is_above plan edges me.0 (label_stage (way_hangs edges q.wire.0 q_is.row q.peer.0 me.0) + (3 * spoken q_is.row q.peer.0 me.0 + 0))
+      may = is_above plan edges me.0 (label_stage (way_hangs edges q.wire.0 q_is.row q.peer.0 me.0) + (3 * edges_spoken q_is.row q.peer.0 me.0 + 0))
 
       end : EndState
       end = unbound label (end_at work.edge q)
@@ -269,8 +269,8 @@ module _ (plan : Plan) (checked : IsChecked plan) (edges : ℕ → EdgeState) (m
 
       said : HasSaid plan me may begun next
       said = says_puts plan me may q (release fec label) Releases begun q_is (λ id. refl) (λ id. names_it)
-          (above_is plan edges me (label_stage (way_hangs edges q.wire.0 q_is.row q.peer.0 me.0) + (3 * spoken q_is.row q.peer.0 me.0 + 0)) q q_is.row Releases q_is.is
-          (one_more_than (label_stage (way_hangs edges q.wire.0 q_is.row q.peer.0 me.0)) (3 * spoken q_is.row q.peer.0 me.0)))
+          (above_is plan edges me (label_stage (way_hangs edges q.wire.0 q_is.row q.peer.0 me.0) + (3 * edges_spoken q_is.row q.peer.0 me.0 + 0)) q q_is.row Releases q_is.is
+          (one_more_than (label_stage (way_hangs edges q.wire.0 q_is.row q.peer.0 me.0)) (3 * edges_spoken q_is.row q.peer.0 me.0)))
 
       remote_is : (end_at next.edge q).remote ≡ end.remote
       remote_is = ap (λ (all : ℕ → ℕ → EndState). (all q.wire.0 q.peer.0).remote) said.put.ends

@@ -62,8 +62,8 @@ way_hangs edges wire row from to =
 -- ---- levels
 
 -- so many edges have spoken, up to this one
-abbrev pub spoken : WirePlan → ℕ → ℕ → ℕ
-spoken row from to = length (way_from row.path from to)
+abbrev pub edges_spoken : WirePlan → ℕ → ℕ → ℕ
+edges_spoken row from to = length (way_from row.path from to)
 
 -- labels of ways that hang on nothing come first, then those of ways that hang on the other way; a path has at most five edges, so sixteen
 -- numbers are enough for each
@@ -84,11 +84,11 @@ address_stage false false = 96
 
 -- the level of what is said of a wire from one edge to its neighbour. A Label Release counts to the way of the label that it names
 abbrev pub level : (ℕ → EdgeState) → ℕ → WirePlan → ℕ → ℕ → Saying → ℕ
-level edges wire row from to Withdraws = label_stage (way_hangs edges wire row from to) + 3 * spoken row from to
-level edges wire row from to Releases = label_stage (way_hangs edges wire row to from) + (3 * spoken row to from + 1)
-level edges wire row from to Binds = label_stage (way_hangs edges wire row from to) + (3 * spoken row from to + 2)
-level edges wire row from to States = status_stage (not (is_mesh_class row.class) && follows row.path from to) + spoken row from to
-level edges wire row from to Clears = address_stage (is_mesh_class row.class) (follows row.path from to) + spoken row from to
+level edges wire row from to Withdraws = label_stage (way_hangs edges wire row from to) + 3 * edges_spoken row from to
+level edges wire row from to Releases = label_stage (way_hangs edges wire row to from) + (3 * edges_spoken row to from + 1)
+level edges wire row from to Binds = label_stage (way_hangs edges wire row from to) + (3 * edges_spoken row from to + 2)
+level edges wire row from to States = status_stage (not (is_mesh_class row.class) && follows row.path from to) + edges_spoken row from to
+level edges wire row from to Clears = address_stage (is_mesh_class row.class) (follows row.path from to) + edges_spoken row from to
 
 -- all levels are below this one
 abbrev pub levels_end : ℕ

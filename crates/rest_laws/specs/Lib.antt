@@ -1,4 +1,5 @@
 pub mod Delivered
+pub mod Layers
 pub mod Levels
 pub mod Rises
 pub mod Weight

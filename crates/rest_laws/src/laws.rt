@@ -1,5 +1,6 @@
 //! What an edge puts on hearing a message, and what it weighs.
 ghost use Rattle.rest_laws.specs.Delivered.{RunsLighten, RunsRise};
+ghost use Rattle.rest_laws.specs.Layers.{DeliveriesLeaveNoneAlone};
 ghost use Rattle.rest_laws.specs.Rises.{HearingLightens, HearingRises};
 ghost use Rattle.rest_laws.specs.Weight.{FewWeighLess};
 
@@ -35,4 +36,10 @@ pub fn runs_rise()
 #[tactic(auto, using(crate::proofs::DeliverLemmas::runs_lighten))]
 pub fn runs_lighten()
     ensures { RunsLighten }
+{}
+
+/// Deliveries leave no end of a connection alone, its neighbour's gone, that was not so before.
+#[tactic(auto, using(crate::proofs::LayerLemmas::deliveries_leave_none_alone))]
+pub fn deliveries_leave_none_alone()
+    ensures { DeliveriesLeaveNoneAlone }
 {}

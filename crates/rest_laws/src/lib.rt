@@ -4,4 +4,7 @@
 
 mod laws;
 
-pub use laws::{few_weigh_less, hearing_lightens, hearing_rises, runs_lighten, runs_rise};
+pub use laws::{
+    deliveries_leave_none_alone, few_weigh_less, hearing_lightens, hearing_rises, runs_lighten,
+    runs_rise,
+};
