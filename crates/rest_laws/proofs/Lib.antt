@@ -8,6 +8,7 @@ pub mod Examples
 pub mod HearLemmas
 pub mod LayerLemmas
 pub mod PutLemmas
+pub mod RestLemmas
 pub mod RiseLemmas
 pub mod StatedLemmas
 pub mod StatusLemmas

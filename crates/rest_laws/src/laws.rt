@@ -1,6 +1,7 @@
 //! What an edge puts on hearing a message, and what it weighs.
 ghost use Rattle.rest_laws.specs.Delivered.{RunsLighten, RunsRise};
 ghost use Rattle.rest_laws.specs.Layers.{DeliveriesLeaveNoneAlone};
+ghost use Rattle.rest_laws.specs.Rest.{SettlesWithin};
 ghost use Rattle.rest_laws.specs.Rises.{HearingLightens, HearingRises};
 ghost use Rattle.rest_laws.specs.Weight.{FewWeighLess};
 
@@ -42,4 +43,10 @@ pub fn runs_lighten()
 #[tactic(auto, using(crate::proofs::LayerLemmas::deliveries_leave_none_alone))]
 pub fn deliveries_leave_none_alone()
     ensures { DeliveriesLeaveNoneAlone }
+{}
+
+/// Where no more than so many deliveries can follow each other, as many next deliveries leave no further one: `settle` with that number
+/// leaves nothing on its way.
+pub fn settles_within()
+    ensures { SettlesWithin }
 {}

@@ -6,5 +6,5 @@ mod laws;
 
 pub use laws::{
     deliveries_leave_none_alone, few_weigh_less, hearing_lightens, hearing_rises, runs_lighten,
-    runs_rise,
+    runs_rise, settles_within,
 };
