@@ -80,7 +80,7 @@ turns_planned plan next (suc n) network all = by (next network) refl (λ later. 
   by (Some event) is again =
       All-cons (IsEventOf plan) event (turns plan next n (step plan network event).state) (all network event is) (again (step plan network event).state)
 
-deliveries_planned : (plan : Plan) (count : ℕ) (network : NetworkState) → All (IsEventOf plan) (deliveries plan count network)
+pub deliveries_planned : (plan : Plan) (count : ℕ) (network : NetworkState) → All (IsEventOf plan) (deliveries plan count network)
 deliveries_planned plan count network = turns_planned plan (next_delivery plan) count network (next_planned plan)
 
 arrival_planned : (plan : Plan) (packet : Option Packet) (event : Event) → option_map arrival_of packet ≡ Some event → IsEventOf plan event
