@@ -30,7 +30,7 @@ use Rattle.flight_laws.specs.Meeting.{said_to}
 use Rattle.flight_laws.specs.Messages.{octets_of_all}
 use Rattle.flight_laws.specs.Sound.{point_limit}
 use Rattle.flight_laws.proofs.BindingLemmas.{some_last}
-use Rattle.move_laws.specs.Moves.{has_short_paths}
+use Rattle.move_laws.specs.Moves.{has_short_spokes}
 use Rattle.ldp_grammar.specs.declared.message.Message.{Message}
 use Rattle.flood_laws.proofs.ChoiceLemmas.{IsChoice, all_get, choice_is}
 use Rattle.move_laws.proofs.ForwardLemmas.{advertises_it}
@@ -250,9 +250,9 @@ module _ (plan : Plan) (service : ServiceId) (network : NetworkState) (me : Edge
         };
       }
 
-  module _ (short : has_short_paths plan service ≡ true) where
+  module _ (short : has_short_spokes plan service ≡ true) where
     speaks_rows : (base : Work) → KeptByRows plan me (Speaks plan service network me peer base)
-    speaks_rows base = rows_speak plan service me checked types short network peer base
+    speaks_rows base = rows_speak plan service me checked types network peer base
 
     -- what was told before all other ends is told after them
     grown : (before : ℕ → Option WireId) (n place : ℕ) (places : List EndPlace) → AllByRecursion (IsEndOf plan me) places → (m : Spoken) → At m.work → WillTell plan service network me.0 place n m.work
@@ -354,7 +354,7 @@ module _ (plan : Plan) (service : ServiceId) (network : NetworkState) (me : Edge
       tell : (wire : WireId) (home : ℕ) (spoke : IsSpokeTo plan service me.0 wire home) → last.edge.chosen service.0 ≡ Some wire
           → (work.edge.chosen service.0 ≡ Some wire) ⊎ WillTell plan service network me.0 home spoke.row.pw_id last
       tell wire home spoke chosen = elim (cases_Bool (is_chosen work.edge.chosen wire spoke.row)) [
-        | inl was ↦ inl (is_wire_some wire (work.edge.chosen service.0) (subst (λ (s : ServiceId). Rattle.edge_model.specs.Role.is_chosen_wire wire (work.edge.chosen s.0) ≡ true) link.of_service was))
+        | inl was ↦ inl (is_wire_some wire (work.edge.chosen service.0) (subst (λ (s : ServiceId). Rattle.edge_model.specs.Role.is_chosen_wire wire (work.edge.chosen s.0) ≡ true) link.of.of_service was))
         | inr new ↦ inr (tells new)
       ]
         where
@@ -396,7 +396,7 @@ module _ (plan : Plan) (service : ServiceId) (network : NetworkState) (me : Edge
               told_statuses.told place.wire.0 place.peer.0 (choosing_told plan advertised.work place.wire.0 place.peer.0 (advertises_it agree.label agree.own _ agree.advertises))
 
           now : statuses.work.edge.chosen spoke.row.service.0 ≡ Some wire
-          now = ap (λ (s : ServiceId). statuses.work.edge.chosen s.0) link.of_service ∙ (ap (λ (f : ℕ → Option WireId). f service.0) (told_statuses.chosen ∙ sym chosen_last) ∙ chosen)
+          now = ap (λ (s : ServiceId). statuses.work.edge.chosen s.0) link.of.of_service ∙ (ap (λ (f : ℕ → Option WireId). f service.0) (told_statuses.chosen ∙ sym chosen_last) ∙ chosen)
 
           tells : is_chosen work.edge.chosen wire spoke.row ≡ false → WillTell plan service network me.0 home spoke.row.pw_id last
           tells new =
@@ -414,7 +414,7 @@ module _ (plan : Plan) (service : ServiceId) (network : NetworkState) (me : Edge
       pub mends_tell_here : TellsChoice plan service network me work (mends plan taken_all work)
       mends_tell_here = subst (TellsChoice plan service network me work) (sym (mends_takes plan taken_all (λ k. refl) work)) (record { told = tell })
 
-pub mends_tell : (plan : Plan) (service : ServiceId) (network : NetworkState) (me : EdgeId) (peer : ℕ) (work : Work) → IsChecked plan → HasTypes plan → has_short_paths plan service
+pub mends_tell : (plan : Plan) (service : ServiceId) (network : NetworkState) (me : EdgeId) (peer : ℕ) (work : Work) → IsChecked plan → HasTypes plan → has_short_spokes plan service
     ≡ true → HasWays plan service network me
     → Stays plan service network me peer work → TellsChoice plan service network me work (mends plan taken_all work)
 mends_tell plan service network me peer work checked types short ways begun = mends_tell_here plan service network me peer checked types ways short work begun

@@ -4,7 +4,7 @@ use Rattle.edge_model.proofs.SessionLemmas.{any, says_works}
 use Rattle.edge_model.proofs.WalkLemmas.{hears_mac_withdraw_holds}
 use Rattle.edge_model.specs.Across.{end_beyond}
 use Rattle.edge_model.specs.Clear.{clears_at, clears_by, clears_wire, hears_mac_withdraw, passes_on, tells_at, tells_by, withdrawing_at}
-use Rattle.edge_model.specs.EndPlaces.{end_named, passes}
+use Rattle.edge_model.specs.EndPlaces.{end_named, is_terminal, passes}
 use Rattle.edge_model.specs.Ends.{wire_end}
 use Rattle.edge_model.specs.Frame.{copies}
 use Rattle.edge_model.specs.Mend.{port_of_wire}
@@ -17,9 +17,10 @@ use Rattle.edge_model.specs.declared.end_place.EndPlace.{EndPlace}
 use Rattle.flight_laws.proofs.MendingLemmas.{KeptByRows, piece_keeps}
 use Rattle.flight_laws.proofs.PassingLemmas.{forgetting_rest, wire_end_is, withdraw_keeps}
 use Rattle.flight_laws.proofs.PieceLemmas.{AreSixOctetsEach, none_are_piece}
-use Rattle.flight_laws.proofs.PlaceLemmas.{IsEndOf}
+use Rattle.flight_laws.proofs.PlaceLemmas.{IsEndOf, same_row}
+use Rattle.flight_laws.proofs.RuledMendLemmas.{wire_fits}
 use Rattle.flight_laws.specs.Ends.{HasTypes}
-use Rattle.move_laws.specs.Moves.{has_short_paths}
+use Rattle.move_laws.specs.Moves.{has_short_spokes}
 use Rattle.hvpls_spokes.specs.Port.{is_wire_port, ports_of, wire_port}
 use Rattle.hvpls_spokes.specs.Role as roles
 use Rattle.hvpls_spokes.specs.declared.edge_role.Role.TheVariants as role
@@ -30,10 +31,10 @@ use Rattle.mac_table.specs.Addresses.{entry_stays}
 use Rattle.mac_table.specs.declared.mac_entry.MacEntry.{MacEntry}
 use Rattle.mac_withdraw.specs.Passing.{is_passed_to}
 use Rattle.mac_withdraw.specs.Pieces.{pieces_of}
+use Rattle.move_laws.proofs.BeyondLemmas.{HasEndBeside, beyond, heard_beyond}
 use Rattle.move_laws.proofs.ChoiceLemmas.{again, piece_tells}
 use Rattle.move_laws.proofs.ForgetLemmas.{Forgets, hear_steps_forget}
 use Rattle.move_laws.proofs.PendingLemmas.{all_weaker, tells_on}
-use Rattle.move_laws.proofs.ShortLinkLemmas.{IsShortLink, short_link}
 use Rattle.move_laws.proofs.SpeakLemmas.{Speaks, speaks_first}
 use Rattle.move_laws.proofs.StayLemmas.{rows_speak, speaks_on}
 use Rattle.move_laws.proofs.WireLemmas.{HasPortAt, IsLinkEnd, IsMeshLink, IsSpokeLink, link_end, mesh_link, port_found, service_is, spoke_link}
@@ -48,16 +49,16 @@ use Rattle.net_values.specs.declared.mac.Mac.{Mac}
 use Rattle.net_values.proofs.BoolLemmas.{clash}
 use Rattle.net_values.proofs.NumberLemmas.{same_number, next_place, from_none, at_start}
 use Rattle.net_base.specs.plan.Accepted.{IsChecked}
-use Rattle.net_base.specs.plan.Paths.{joins}
+use Rattle.net_base.specs.plan.Paths.{joins, mate_on}
 use Rattle.net_base.specs.plan.Places.{wire_row}
-use Rattle.net_base.specs.plan.Roles.{are_joined_by, has_port, is_mesh_of, is_spoke_edge, is_wire_of}
+use Rattle.net_base.specs.plan.Roles.{are_joined_by, has_port, is_mesh_of, is_spoke_edge, is_wire_of, wire_ends_at}
+use Rattle.network_model.proofs.GoalLemmas.{mate_inside}
 use Rattle.network_model.specs.Absorb.{taken_all}
 use Rattle.network_model.specs.State.{NetworkState}
 use Rattle.pw_signalling.specs.End.{Advertised, Idle, LocalPart, Withdrawing}
 use Rattle.pw_signalling.specs.declared.told.Told.{Told}
 use Rattle.pw_tlvs.specs.declared.pw_fec.PwFec.{PwFec}
-use Rattle.std.proofs.Common.{Bool, List, None, Option, Some, [], ap, arith, cond, false, filter, not, option_and_then, position, refl, slice_get, subst, suc, sym, true, zero, ℕ, ◌&&◌, ◌+◌, ◌==◌, ◌||◌, ◌∙◌, ◌∷◌, ◌≡◌}
-use Rattle.std.proofs.lemmas.Bool.Decides.{nat_tests}
+use Rattle.std.proofs.Common.{Bool, List, None, Option, Some, [], ap, cond, false, filter, not, option_and_then, position, refl, slice_get, subst, suc, sym, true, zero, ℕ, ◌&&◌, ◌+◌, ◌==◌, ◌∙◌, ◌∷◌, ◌≡◌}
 use Rattle.std.proofs.lemmas.Bool.{eqb-true}
 use Rattle.std.specs.List.{AllByRecursion}
 
@@ -141,11 +142,11 @@ withdraw_chosen plan peer fec macs work = by_end (end_of_fec plan work.edge peer
   by_end (Some place) = by_side place place.terminal
 
 pub withdraw_stays : (plan : Plan) (service : ServiceId) (network : NetworkState) (me : EdgeId) (k : ℕ) (peer : EdgeId) (fec : PwFec) (macs : List Mac) (work : Work) → IsChecked plan
-    → HasTypes plan → has_short_paths plan service ≡ true → AreSixOctetsEach macs
+    → HasTypes plan → AreSixOctetsEach macs
     → Stays plan service network me k work → StaysOn plan service network me k work (hears_mac_withdraw plan taken_all peer (Some fec) (Some macs) work)
-withdraw_stays plan service network me k peer fec macs work checked types short are begun =
+withdraw_stays plan service network me k peer fec macs work checked types are begun =
     speaks_on plan service network me k work (hears_mac_withdraw plan taken_all peer (Some fec) (Some macs) work) begun
-    (withdraw_keeps plan me (Speaks plan service network me k work) (rows_speak plan service me checked types short network k work) peer fec macs are work
+    (withdraw_keeps plan me (Speaks plan service network me k work) (rows_speak plan service me checked types network k work) peer fec macs are work
     (speaks_first plan service network me k work begun))
     (hears_mac_withdraw_holds plan taken_all (Forgets service) (hear_steps_forget service plan) peer (Some fec) (Some macs) work)
 
@@ -155,19 +156,10 @@ withdraw_stays plan service network me k peer fec macs work checked types short 
 abbrev pub AreAtPort : Plan → ServiceId → EdgeId → Port → List MacEntry → Type 0
 AreAtPort plan service me at entries = AllByRecursion (λ (entry : MacEntry). slice_get (ports_of plan service me) entry.port ≡ Some at) entries
 
-module _ (plan : Plan) (service : ServiceId) (me peer : EdgeId) (wire : WireId) (row : WirePlan) (fec : PwFec) (work : Work) (checked : IsChecked plan) (short : has_short_paths plan service ≡ true) (placed : work.edge.me ≡ me)
+module _ (plan : Plan) (service : ServiceId) (me peer : EdgeId) (wire : WireId) (row : WirePlan) (fec : PwFec) (work : Work) (checked : IsChecked plan) (ends : wire_ends_at service me.0 row ≡ true) (placed : work.edge.me ≡ me)
     (is : wire_row plan wire ≡ Some row) (of_service : is_wire_of service row ≡ true) (joined : joins me.0 peer.0 row.path ≡ true) (named : fec.pw_id ≡ Some row.pw_id) where
   end : IsLinkEnd plan me peer wire row
-  end = link_end plan service me peer wire row checked short of_service is joined
-
-  ends : Rattle.net_base.specs.plan.Roles.wire_ends_at service me.0 row ≡ true
-  ends = on_it (short_link plan service wire.0 row checked short of_service is)
-    where
-      either : (ours : Bool) (a b n f : ℕ) → ours ≡ true → ((a == n && b == f) || (b == n && a == f)) || false ≡ true → ours && ((a == n) || (a == f)) ≡ true
-      either ours a b n f one is = rw one (grind (arith, nat_tests))
-
-      on_it : IsShortLink plan row → Rattle.net_base.specs.plan.Roles.wire_ends_at service me.0 row ≡ true
-      on_it link = rw link.path (either (is_wire_of service row) me.0 peer.0 link.near.0 link.far.0 of_service (rw link.path at joined))
+  end = link_end plan service me peer wire row checked ends is joined
 
   pub found_port : HasPortAt plan service me wire row
   found_port = port_found plan service me wire row is ends
@@ -214,12 +206,12 @@ module _ (plan : Plan) (service : ServiceId) (me peer : EdgeId) (wire : WireId) 
 
 -- ---- a withdrawal is passed on
 
-module _ (plan : Plan) (service : ServiceId) (network : NetworkState) (me : EdgeId) (k : ℕ) (checked : IsChecked plan) (types : HasTypes plan) (short : has_short_paths plan service ≡ true) (ways : HasWays plan service network me) where
+module _ (plan : Plan) (service : ServiceId) (network : NetworkState) (me : EdgeId) (k : ℕ) (checked : IsChecked plan) (types : HasTypes plan) (short : has_short_spokes plan service ≡ true) (ways : HasWays plan service network me) where
   abbrev At : Work → Type 0
   At work = Speaks plan service network me k work work
 
   rows : (base : Work) → KeptByRows plan me (Speaks plan service network me k base)
-  rows base = rows_speak plan service me checked types short network k base
+  rows base = rows_speak plan service me checked types network k base
 
   renew : (base work : Work) → Speaks plan service network me k base work → At work
   renew base work speaks = again plan service network me k checked types ways base work speaks
@@ -247,114 +239,135 @@ module _ (plan : Plan) (service : ServiceId) (network : NetworkState) (me : Edge
   ports_speak base targets p [] work speaks = speaks
   ports_speak base targets p (x ∷ xs) work speaks = ports_speak base targets (p + 1) xs (cond (targets p) (tells_at plan taken_all [] x work) work) (port_or_not base (targets p) x work speaks)
 
-  module _ (core : EdgeId) (mesh : WireId) (row : WirePlan) (is : wire_row plan mesh ≡ Some row) (of_mesh : is_mesh_of service row ≡ true) (joined : joins me.0 core.0 row.path ≡ true) where
-    link : IsMeshLink plan service me.0 core.0 row
-    link = mesh_link plan service me.0 core.0 mesh row checked short is of_mesh joined
+  module _ (next : EdgeId) (mesh : WireId) (row : WirePlan) (is : wire_row plan mesh ≡ Some row) (of_mesh : is_mesh_of service row ≡ true) (joined : joins me.0 next.0 row.path ≡ true) where
+    link : IsMeshLink plan service me.0 next.0 row
+    link = mesh_link plan service me.0 next.0 mesh row is of_mesh joined
 
-    end_there : IsLinkEnd plan me core mesh row
-    end_there = link_end plan service me core mesh row checked short link.ours is joined
+    -- to the next edge of a mesh wire
+    abbrev Tells : Work → Type 0
+    Tells work = WillTell plan service network me.0 next.0 row.pw_id work
 
-    here_tells : (work : Work) → At work → WillTell plan service network me.0 core.0 row.pw_id (tells_at plan taken_all [] (port.Mesh mesh) work)
-    here_tells work speaks = subst (λ (o : Option EndPlace). WillTell plan service network me.0 core.0 row.pw_id (tells_by taken_all [] o work)) (sym found) (by_local (end_at work.edge end_there.place).local refl told) where
-      place : EndPlace
-      place = end_there.place
-
-      found : wire_end plan work.edge.me mesh ≡ Some place
-      found = ap (λ (e : EdgeId). wire_end plan e mesh) speaks.place ∙ end_there.found
-
+    -- at the end beside it
+    end_tells : (place : EndPlace) → IsEndOf plan me place → place.wire ≡ mesh → place.peer ≡ next → place.pw_id ≡ row.pw_id → (work : Work) → At work → Tells (tells_by taken_all [] (Some place) work)
+    end_tells place end wire_is peer_is pw_id_is work speaks = by_local (end_at work.edge place).local refl told where
       told : is_advertising (end_at work.edge place).local ≡ true
-      told = ap (λ (w : WireId). is_advertising (work.edge.ends w.0 place.peer.0).local) end_there.wire_is
-          ∙ (ap (λ (e : EdgeId). is_advertising (work.edge.ends mesh.0 e.0).local) end_there.peer_is ∙ speaks.mesh.told mesh row core.0 is of_mesh joined)
+      told = ap (λ (w : WireId). is_advertising (work.edge.ends w.0 place.peer.0).local) wire_is
+          ∙ (ap (λ (e : EdgeId). is_advertising (work.edge.ends mesh.0 e.0).local) peer_is ∙ speaks.mesh.told mesh row next.0 is of_mesh joined)
 
       by_service : are_joined_by plan service me.0 place.peer.0 ≡ true
-      by_service = ap (λ (e : EdgeId). are_joined_by plan service me.0 e.0) end_there.peer_is ∙ link.by_service
+      by_service = ap (λ (e : EdgeId). are_joined_by plan service me.0 e.0) peer_is ∙ link.by_service
 
       by_local : (local : LocalPart) → (end_at work.edge place).local ≡ local → is_advertising local ≡ true
-          → WillTell plan service network me.0 core.0 row.pw_id (tells_piece_by taken_all place [] local work).work
+          → Tells (tells_piece_by taken_all place [] local work).work
       by_local (Idle declined) at told = clash told
       by_local (Advertised label content) at told =
-          subst (λ (e : EdgeId). WillTell plan service network me.0 e.0 row.pw_id (says taken_all place.peer (mac_withdrawal place.pw_id [] content) work).work) end_there.peer_is
-          (subst (λ (n : ℕ). WillTell plan service network me.0 place.peer.0 n (says taken_all place.peer (mac_withdrawal place.pw_id [] content) work).work) end_there.pw_id_is
-          (piece_tells plan service network me k checked types ways work place label content work (wire_end_is plan me mesh place end_there.found) by_service at speaks))
+          subst (λ (e : EdgeId). WillTell plan service network me.0 e.0 row.pw_id (says taken_all place.peer (mac_withdrawal place.pw_id [] content) work).work) peer_is
+          (subst (λ (n : ℕ). WillTell plan service network me.0 place.peer.0 n (says taken_all place.peer (mac_withdrawal place.pw_id [] content) work).work) pw_id_is
+          (piece_tells plan service network me k checked types ways work place label content work end by_service at speaks))
       by_local (Withdrawing label) at told = clash told
 
-    ports_tell : (targets : ℕ → Bool) (p i : ℕ) (ports : List Port) (work : Work) → slice_get ports i ≡ Some (port.Mesh mesh) → targets (p + i) ≡ true → At work
-        → WillTell plan service network me.0 core.0 row.pw_id (copies targets (tells_at plan taken_all []) p ports work)
-    ports_tell targets p i [] work at goes speaks = absurd (cc (at))
-    ports_tell targets p zero (x ∷ xs) work at goes speaks =
-        let same : x ≡ port.Mesh mesh = cc (at) in
-        let target : targets p ≡ true = ap targets (sym (at_start p)) ∙ goes in
-        let next : Work = tells_at plan taken_all [] x work in
-        let first : WillTell plan service network me.0 core.0 row.pw_id next =
-        subst (λ (y : Port). WillTell plan service network me.0 core.0 row.pw_id (tells_at plan taken_all [] y work)) (sym same) (here_tells work speaks) in
-        let then : Speaks plan service network me k next (copies targets (tells_at plan taken_all []) (p + 1) xs next) =
-        ports_speak next targets (p + 1) xs next (renew work next (port_speaks work x work speaks)) in
-        subst (λ (b : Bool). WillTell plan service network me.0 core.0 row.pw_id (copies targets (tells_at plan taken_all []) (p + 1) xs (cond b next work))) (sym target)
-        (tells_on plan service network me.0 core.0 row.pw_id next (copies targets (tells_at plan taken_all []) (p + 1) xs next) (then.more core.0 first.joined first.there) first)
-    ports_tell targets p (suc i) (x ∷ xs) work at goes speaks =
-        ports_tell targets (p + 1) i xs (cond (targets p) (tells_at plan taken_all [] x work) work) at (ap targets (next_place p i) ∙ goes) (renew work _ (port_or_not work (targets p) x work speaks))
-
-    -- from a spoke
-    pub withdraw_passes : (peer : EdgeId) (wire : WireId) (fec : PwFec) (work : Work) → (begun : Stays plan service network me k work)
-        → (spoke : IsSpokeTo plan service peer.0 wire me.0) → fec.pw_id ≡ Some spoke.row.pw_id
-        → WillTell plan service network me.0 core.0 row.pw_id (hears_mac_withdraw plan taken_all peer (Some fec) (Some []) work)
-    withdraw_passes peer wire fec work begun spoke named =
-        subst (WillTell plan service network me.0 core.0 row.pw_id) (sym (heard_is plan service me peer wire spoke.row fec work checked short begun.place spoke.is ours back named))
-        (subst (λ (o : Option Role). WillTell plan service network me.0 core.0 row.pw_id (passes_on plan taken_all [] service from.p o cleared)) (sym role_is) passed)
+    -- at a switching point, from the other side
+    pub withdraw_goes_on : (peer : EdgeId) (fec : PwFec) (work : Work) → Stays plan service network me k work → joins me.0 peer.0 row.path ≡ true → mate_on row.path me.0 peer.0 ≡ Some next
+        → fec.pw_id ≡ Some row.pw_id → Tells (hears_mac_withdraw plan taken_all peer (Some fec) (Some []) work)
+    withdraw_goes_on peer fec work begun beside mated named =
+        subst Tells (sym (heard_beyond plan me peer next mesh row fec work checked begun.place is beside mated inside named))
+        (end_tells far.place far.end far.wire_is far.peer_is pw_id_is work (speaks_first plan service network me k work begun))
       where
-        near : IsSpokeLink plan service peer.0 me.0 spoke.row
-        near = spoke_link plan service peer.0 wire me.0 checked short spoke
+        inside : is_terminal row me ≡ false
+        inside = mate_inside row.path me peer next (wire_fits plan mesh row checked is).once mated
 
-        ours : is_wire_of service spoke.row ≡ true
-        ours = ap (λ (s : ServiceId). s.0 == service.0) near.of_service ∙ same_number service.0
+        far : HasEndBeside plan me next mesh
+        far = beyond plan me peer next mesh row fec work checked begun.place is beside mated inside named
 
-        back : joins me.0 peer.0 spoke.row.path ≡ true
-        back = sym (joins_turned spoke.row.path peer.0 me.0) ∙ near.joined
+        pw_id_is : far.place.pw_id ≡ row.pw_id
+        pw_id_is = far.end.pw_id ∙ ap (λ (r : WirePlan). r.pw_id) (same_row far.end.row row (sym far.end.is ∙ (ap (wire_row plan) far.wire_is ∙ is)))
 
-        from : HasPortAt plan service me wire spoke.row
-        from = found_port plan service me peer wire spoke.row fec work checked short begun.place spoke.is ours back named
+    -- at a terminal edge, by the port of the wire
+    module _ (ends : wire_ends_at service me.0 row ≡ true) where
+      here_tells : (work : Work) → At work → Tells (tells_at plan taken_all [] (port.Mesh mesh) work)
+      here_tells work speaks = subst (λ (o : Option EndPlace). Tells (tells_by taken_all [] o work)) (sym found)
+          (end_tells there.place (wire_end_is plan me mesh there.place there.found) there.wire_is there.peer_is there.pw_id_is work speaks)
+        where
+          there : IsLinkEnd plan me next mesh row
+          there = link_end plan service me next mesh row checked ends is joined
 
-        to : HasPortAt plan service me mesh row
-        to = port_found plan service me mesh row is link.ends
+          found : wire_end plan work.edge.me mesh ≡ Some there.place
+          found = ap (λ (e : EdgeId). wire_end plan e mesh) speaks.place ∙ there.found
 
-        cleared : Work
-        cleared = changes (withdrawing_at service [] from.p) work
+      ports_tell : (targets : ℕ → Bool) (p i : ℕ) (ports : List Port) (work : Work) → slice_get ports i ≡ Some (port.Mesh mesh) → targets (p + i) ≡ true → At work
+          → Tells (copies targets (tells_at plan taken_all []) p ports work)
+      ports_tell targets p i [] work at goes speaks = absurd (cc (at))
+      ports_tell targets p zero (x ∷ xs) work at goes speaks =
+          let same : x ≡ port.Mesh mesh = cc (at) in
+          let target : targets p ≡ true = ap targets (sym (at_start p)) ∙ goes in
+          let after : Work = tells_at plan taken_all [] x work in
+          let first : Tells after =
+          subst (λ (y : Port). Tells (tells_at plan taken_all [] y work)) (sym same) (here_tells work speaks) in
+          let then : Speaks plan service network me k after (copies targets (tells_at plan taken_all []) (p + 1) xs after) =
+          ports_speak after targets (p + 1) xs after (renew work after (port_speaks work x work speaks)) in
+          subst (λ (b : Bool). Tells (copies targets (tells_at plan taken_all []) (p + 1) xs (cond b after work))) (sym target)
+          (tells_on plan service network me.0 next.0 row.pw_id after (copies targets (tells_at plan taken_all []) (p + 1) xs after) (then.more next.0 first.joined first.there) first)
+      ports_tell targets p (suc i) (x ∷ xs) work at goes speaks =
+          ports_tell targets (p + 1) i xs (cond (targets p) (tells_at plan taken_all [] x work) work) at (ap targets (next_place p i) ∙ goes) (renew work _ (port_or_not work (targets p) x work speaks))
 
-        role_is : roles.role_of plan service work.edge.me ≡ Some role.Core
-        role_is = ap (λ (e : EdgeId). roles.role_of plan service e) begun.place ∙ rw (core_only.0, core_only.1) refl
-          where
-            core_only : (is_spoke_edge plan service me.0 ≡ false) × (has_port plan service me.0 ≡ true)
-            core_only = no_spoke (has_port plan service me.0) (is_spoke_edge plan service me.0) near.core
-              where
-                no_spoke : (p s : Bool) → p && not s ≡ true → (s ≡ false) × (p ≡ true)
-                no_spoke true true is = clash is
-                no_spoke true false is = (refl, refl)
-                no_spoke false s is = clash is
+      -- from a spoke
+      pub withdraw_passes : (peer : EdgeId) (wire : WireId) (fec : PwFec) (work : Work) → (begun : Stays plan service network me k work)
+          → (spoke : IsSpokeTo plan service peer.0 wire me.0) → fec.pw_id ≡ Some spoke.row.pw_id
+          → Tells (hears_mac_withdraw plan taken_all peer (Some fec) (Some []) work)
+      withdraw_passes peer wire fec work begun spoke named =
+          subst (Tells) (sym (heard_is plan service me peer wire spoke.row fec work checked near.of.ends_there begun.place spoke.is near.of.ours back named))
+          (subst (λ (o : Option Role). Tells (passes_on plan taken_all [] service from.p o cleared)) (sym role_is) passed)
+        where
+          near : IsSpokeLink plan service peer.0 me.0 spoke.row
+          near = spoke_link plan service peer.0 wire me.0 checked short spoke
 
-        at_cleared : At cleared
-        at_cleared = renew work cleared ((rows work).others (withdrawing_at service [] from.p) work (forgetting_rest service [] from.p work.edge).0
-            (forgetting_rest service [] from.p work.edge).1 (speaks_first plan service network me k work begun))
+          back : joins me.0 peer.0 spoke.row.path ≡ true
+          back = sym (joins_turned spoke.row.path peer.0 me.0) ∙ near.joined
 
-        cleared_me : cleared.edge.me ≡ me
-        cleared_me = at_cleared.place
+          from : HasPortAt plan service me wire spoke.row
+          from = found_port plan service me peer wire spoke.row fec work checked near.of.ends_there begun.place spoke.is near.of.ours back named
 
-        ports : List Port
-        ports = ports_of plan service me
+          to : HasPortAt plan service me mesh row
+          to = port_found plan service me mesh row is ends
 
-        mesh_leads : slice_get ports to.p ≡ Some (port.Mesh mesh)
-        mesh_leads = to.leads ∙ ap (λ (m : Bool). Some (cond m (port.Mesh (record { 0 = mesh.0 })) (port.Spoke (record { 0 = mesh.0 })))) link.class
+          cleared : Work
+          cleared = changes (withdrawing_at service [] from.p) work
 
-        spoke_leads : slice_get ports from.p ≡ Some (port.Spoke wire)
-        spoke_leads = from.leads ∙ ap (λ (m : Bool). Some (cond m (port.Mesh (record { 0 = wire.0 })) (port.Spoke (record { 0 = wire.0 })))) near.class
+          role_is : roles.role_of plan service work.edge.me ≡ Some role.Core
+          role_is = ap (λ (e : EdgeId). roles.role_of plan service e) begun.place ∙ rw (core_only.0, core_only.1) refl
+            where
+              core_only : (is_spoke_edge plan service me.0 ≡ false) × (has_port plan service me.0 ≡ true)
+              core_only = no_spoke (has_port plan service me.0) (is_spoke_edge plan service me.0) near.of.core
+                where
+                  no_spoke : (p s : Bool) → p && not s ≡ true → (s ≡ false) × (p ≡ true)
+                  no_spoke true true is = clash is
+                  no_spoke true false is = (refl, refl)
+                  no_spoke false s is = clash is
 
-        not_same : (a b : ℕ) → slice_get ports a ≡ Some (port.Mesh mesh) → slice_get ports b ≡ Some (port.Spoke wire) → (b' : Bool) → (a == b) ≡ b' → b' ≡ false
-        not_same a b one other true is = absurd (cc (sym one ∙ (ap (slice_get ports) (eqb-true a b is) ∙ other)))
-        not_same a b one other false is = refl
+          at_cleared : At cleared
+          at_cleared = renew work cleared ((rows work).others (withdrawing_at service [] from.p) work (forgetting_rest service [] from.p work.edge).0
+              (forgetting_rest service [] from.p work.edge).1 (speaks_first plan service network me k work begun))
 
-        goes : is_passed_to role.Core ports from.p to.p ≡ true
-        goes = rw (mesh_leads, spoke_leads, not_same to.p from.p mesh_leads spoke_leads (to.p == from.p) refl) refl
+          cleared_me : cleared.edge.me ≡ me
+          cleared_me = at_cleared.place
 
-        passed : WillTell plan service network me.0 core.0 row.pw_id (passes_on plan taken_all [] service from.p (Some role.Core) cleared)
-        passed = subst (λ (e : EdgeId). WillTell plan service network me.0 core.0 row.pw_id
-            (copies (is_passed_to role.Core (ports_of plan service e) from.p) (tells_at plan taken_all []) 0 (ports_of plan service e) cleared)) (sym cleared_me)
-            (ports_tell (is_passed_to role.Core ports from.p) 0 to.p ports cleared mesh_leads (ap (is_passed_to role.Core ports from.p) (from_none to.p) ∙ goes) at_cleared)
+          ports : List Port
+          ports = ports_of plan service me
+
+          mesh_leads : slice_get ports to.p ≡ Some (port.Mesh mesh)
+          mesh_leads = to.leads ∙ ap (λ (m : Bool). Some (cond m (port.Mesh (record { 0 = mesh.0 })) (port.Spoke (record { 0 = mesh.0 })))) link.class
+
+          spoke_leads : slice_get ports from.p ≡ Some (port.Spoke wire)
+          spoke_leads = from.leads ∙ ap (λ (m : Bool). Some (cond m (port.Mesh (record { 0 = wire.0 })) (port.Spoke (record { 0 = wire.0 })))) near.of.class
+
+          not_same : (a b : ℕ) → slice_get ports a ≡ Some (port.Mesh mesh) → slice_get ports b ≡ Some (port.Spoke wire) → (b' : Bool) → (a == b) ≡ b' → b' ≡ false
+          not_same a b one other true is = absurd (cc (sym one ∙ (ap (slice_get ports) (eqb-true a b is) ∙ other)))
+          not_same a b one other false is = refl
+
+          goes : is_passed_to role.Core ports from.p to.p ≡ true
+          goes = rw (mesh_leads, spoke_leads, not_same to.p from.p mesh_leads spoke_leads (to.p == from.p) refl) refl
+
+          passed : Tells (passes_on plan taken_all [] service from.p (Some role.Core) cleared)
+          passed = subst (λ (e : EdgeId). Tells
+              (copies (is_passed_to role.Core (ports_of plan service e) from.p) (tells_at plan taken_all []) 0 (ports_of plan service e) cleared)) (sym cleared_me)
+              (ports_tell (is_passed_to role.Core ports from.p) 0 to.p ports cleared mesh_leads (ap (is_passed_to role.Core ports from.p) (from_none to.p) ∙ goes) at_cleared)

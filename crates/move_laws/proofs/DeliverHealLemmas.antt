@@ -8,7 +8,7 @@ use Rattle.flight_laws.proofs.PipeLemmas.{pipe_from, pipe_there, pipe_to}
 use Rattle.flight_laws.proofs.RunLemmas.{both_apart}
 use Rattle.flight_laws.proofs.SoundLemmas.{happens_sound}
 use Rattle.flight_laws.specs.Ends.{HasTypes, IsOrdered}
-use Rattle.move_laws.specs.Moves.{has_short_paths}
+use Rattle.move_laws.specs.Moves.{has_short_spokes}
 use Rattle.move_laws.proofs.HearHealLemmas.{MeshesTo, event_heals}
 use Rattle.move_laws.proofs.LiveLemmas.{mends_live}
 use Rattle.move_laws.proofs.MendHealLemmas.{mends_heal}
@@ -38,7 +38,7 @@ pub record HasMeshes (plan : Plan) (service : ServiceId) : Type 0 where
 all_there : (network : NetworkState) (me : ℕ) → IsDrawn network network me me
 all_there network me = record { edges = refl; pipes = λ a b other. refl }
 
-module _ (plan : Plan) (service : ServiceId) (site : Sites) (calm network : NetworkState) (checked : IsChecked plan) (types : HasTypes plan) (short : has_short_paths plan service ≡ true) (ordered : IsOrdered plan network) (meshed : HasMeshes plan service)
+module _ (plan : Plan) (service : ServiceId) (site : Sites) (calm network : NetworkState) (checked : IsChecked plan) (types : HasTypes plan) (short : has_short_spokes plan service ≡ true) (ordered : IsOrdered plan network) (meshed : HasMeshes plan service)
     (heals : Heals plan service site calm network) where
   ways : (me : EdgeId) → HasWays plan service network me
   ways me place joined stood = (heals.steady me.0 place joined stood).0.way
@@ -47,7 +47,7 @@ module _ (plan : Plan) (service : ServiceId) (site : Sites) (calm network : Netw
   pub losing_heals : (me peer : EdgeId) → stands network me.0 peer.0 ≡ true → stands network peer.0 me.0 ≡ false → Heals plan service site calm (losing plan me peer network).state
   losing_heals me peer there gone = subst (λ (w : Work). Heals plan service site calm (absorb me 0 0 w network).state) (sym work_is)
       (settle_heals plan service site calm network network me peer.0 [] (mends plan taken_all ended) checked (record { edges = refl; pipes = λ a b other. refl }) heals healed
-      (mends_live plan service me ended checked short after.stays.place)
+      (mends_live plan service me ended checked after.stays.place)
       (λ joined stood. clash (sym apart ∙ joined_back plan service peer.0 me.0 joined)))
     where
       apart : are_joined_by plan service me.0 peer.0 ≡ false

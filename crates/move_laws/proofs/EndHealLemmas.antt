@@ -7,23 +7,21 @@ use Rattle.flight_laws.specs.Bound.{some_message}
 use Rattle.flight_laws.specs.Ends.{IsOrdered, ends_at}
 use Rattle.flood_laws.proofs.FarLemmas.{are_settled}
 use Rattle.flood_laws.proofs.LawLemmas.{circuit_within}
-use Rattle.move_laws.specs.Moves.{has_short_paths}
+use Rattle.move_laws.specs.Moves.{has_short_spokes}
 use Rattle.hvpls_spokes.proofs.PortsLemmas.{IsWired, served_at}
 use Rattle.hvpls_spokes.specs.Port.{ports_of}
 use Rattle.hvpls_spokes.specs.declared.port.Port.TheVariants as port
 use Rattle.hvpls_spokes.specs.declared.port.Port.{Port}
 use Rattle.mac_table.specs.declared.mac_entry.MacEntry.{MacEntry}
 use Rattle.flood_laws.proofs.ChoiceLemmas.{all_by_place, all_get}
-use Rattle.move_laws.proofs.LiveLemmas.{other_of}
+use Rattle.flood_laws.proofs.LinkLemmas.{IsLink, link_at}
 use Rattle.move_laws.proofs.LiveSpokeLemmas.{IsLiveAt, live_at, live_same, quiet_way, spoke_at_link}
-use Rattle.move_laws.proofs.ShortLinkLemmas.{IsShortLink, far_is, has_two, short_link}
-use Rattle.move_laws.proofs.WireLemmas.{IsMeshLink, IsSpokeLink, mesh_link, spoke_link}
+use Rattle.move_laws.proofs.WireLemmas.{HasFar, IsSpokeLink, IsSpokeOf, mesh_far, spoke_link, spoke_of}
 use Rattle.move_laws.specs.Clearing.{clears}
 use Rattle.move_laws.specs.Healing.{ByMesh, BySpoke, EntryHeals, Heals, IsAtLive, IsRight, IsSpokeTo, IsWithdrawalPending, LeadsHome, WillBeRight, chosen_in, learned_in}
 use Rattle.net_base.specs.declared.plan.Plan.{Plan}
 use Rattle.net_base.specs.declared.plan.circuit_plan.CircuitPlan.{CircuitPlan}
 use Rattle.net_base.specs.declared.plan.places.CircuitId.{CircuitId}
-use Rattle.net_base.specs.declared.plan.places.EdgeId.{EdgeId}
 use Rattle.net_base.specs.declared.plan.places.ServiceId.{ServiceId}
 use Rattle.net_base.specs.declared.plan.places.WireId.{WireId}
 use Rattle.net_base.specs.declared.plan.wire_plan.WirePlan.{WirePlan}
@@ -75,18 +73,18 @@ at_own_edge plan service circuit row is ours = and_from (is_circuit_of plan serv
 -- ---- spokes and mesh wires behind ports
 
 -- a spoke that carries frames, and what is behind it
-pub record IsBehindSpoke (plan : Plan) (service : ServiceId) (network : NetworkState) (edge : ℕ) (wire : WireId) (row : WirePlan) (link : IsShortLink plan row) (circuit : CircuitId) : Type 0 where
+pub record IsBehindSpoke (plan : Plan) (service : ServiceId) (network : NetworkState) (edge : ℕ) (wire : WireId) (row : WirePlan) (link : IsLink plan row) (circuit : CircuitId) : Type 0 where
   pub from : is_spoke_from service link.near.0 row ≡ true
   pub live : carries plan network wire.0 row ≡ true
   pub behind : cond (edge == link.near.0) (elsewhere_of plan service edge circuit) (at_edge_of plan service link.near.0 circuit) ≡ true
 
-pub spoke_reach : (plan : Plan) (service : ServiceId) (network : NetworkState) (edge : ℕ) (wire : WireId) (row : WirePlan) (link : IsShortLink plan row) (circuit : CircuitId)
+pub spoke_reach : (plan : Plan) (service : ServiceId) (network : NetworkState) (edge : ℕ) (wire : WireId) (row : WirePlan) (link : IsLink plan row) (circuit : CircuitId)
     → wire_row plan wire ≡ Some row
     → reach plan network service edge (port.Spoke wire) circuit
     ≡ (is_live_spoke plan network service link.near.0 wire.0 row && cond (edge == link.near.0) (elsewhere_of plan service edge circuit) (at_edge_of plan service link.near.0 circuit))
 spoke_reach plan service network edge wire row link circuit is = rw (is, link.path) refl
 
-pub behind_is : (plan : Plan) (service : ServiceId) (network : NetworkState) (edge : ℕ) (wire : WireId) (row : WirePlan) (link : IsShortLink plan row) (circuit : CircuitId)
+pub behind_is : (plan : Plan) (service : ServiceId) (network : NetworkState) (edge : ℕ) (wire : WireId) (row : WirePlan) (link : IsLink plan row) (circuit : CircuitId)
     → wire_row plan wire ≡ Some row → reach plan network service edge (port.Spoke wire) circuit ≡ true
     → IsBehindSpoke plan service network edge wire row link circuit
 behind_is plan service network edge wire row link circuit is reached =
@@ -98,7 +96,7 @@ behind_is plan service network edge wire row link circuit is reached =
       behind = second_holds (is_live_spoke plan network service link.near.0 wire.0 row) _ both;
     }
 
-pub reach_spoke : (plan : Plan) (service : ServiceId) (network : NetworkState) (edge : ℕ) (wire : WireId) (row : WirePlan) (link : IsShortLink plan row) (circuit : CircuitId)
+pub reach_spoke : (plan : Plan) (service : ServiceId) (network : NetworkState) (edge : ℕ) (wire : WireId) (row : WirePlan) (link : IsLink plan row) (circuit : CircuitId)
     → wire_row plan wire ≡ Some row → IsBehindSpoke plan service network edge wire row link circuit
     → reach plan network service edge (port.Spoke wire) circuit ≡ true
 reach_spoke plan service network edge wire row link circuit is behind = spoke_reach plan service network edge wire row link circuit is
@@ -118,38 +116,34 @@ pub record IsPortWire (plan : Plan) (service : ServiceId) (edge : ℕ) (mesh : B
   pub is : wire_row plan wire ≡ Some row
   pub ends : Rattle.net_base.specs.plan.Roles.wire_ends_at service edge row ≡ true
   pub class : is_mesh_class row.class ≡ mesh
-  pub link : IsShortLink plan row
-  pub peer : EdgeId
-  pub joined : joins edge peer.0 row.path ≡ true
+  pub link : IsLink plan row
 
-port_wire : (plan : Plan) (service : ServiceId) (edge : ℕ) (mesh : Bool) (wire : WireId) → IsChecked plan → has_short_paths plan service ≡ true
+port_wire : (plan : Plan) (service : ServiceId) (edge : ℕ) (mesh : Bool) (wire : WireId) → IsChecked plan
     → IsWired plan.wires service (record { 0 = edge }) mesh wire.0 → IsPortWire plan service edge mesh wire
-port_wire plan service edge mesh wire checked short wired =
-    let link : IsShortLink plan wired.row = short_link plan service wire.0 wired.row checked short
-    (first_holds (is_wire_of service wired.row) (is_first edge wired.row.path || is_last edge wired.row.path) wired.ends) wired.is in
-    let other = other_of plan service (record { 0 = edge }) wired.row link wired.ends in
-    record { row = wired.row; is = wired.is; ends = wired.ends; class = wired.class; link = link; peer = other.peer; joined = other.joined }
+port_wire plan service edge mesh wire checked wired = record { row = wired.row; is = wired.is; ends = wired.ends; class = wired.class; link = link_at plan wire.0 wired.row checked wired.is }
 
-pub mesh_port : (plan : Plan) (service : ServiceId) (edge p : ℕ) (wire : WireId) → IsChecked plan → has_short_paths plan service ≡ true
+pub mesh_port : (plan : Plan) (service : ServiceId) (edge p : ℕ) (wire : WireId) → IsChecked plan
     → slice_get (ports_of plan service (record { 0 = edge })) p ≡ Some (port.Mesh wire) → IsPortWire plan service edge true wire
-mesh_port plan service edge p wire checked short at = port_wire plan service edge true wire checked short (served_at plan service (record { 0 = edge }) p (port.Mesh wire) at)
+mesh_port plan service edge p wire checked at = port_wire plan service edge true wire checked (served_at plan service (record { 0 = edge }) p (port.Mesh wire) at)
 
-pub spoke_port : (plan : Plan) (service : ServiceId) (edge p : ℕ) (wire : WireId) → IsChecked plan → has_short_paths plan service ≡ true
+pub spoke_port : (plan : Plan) (service : ServiceId) (edge p : ℕ) (wire : WireId) → IsChecked plan
     → slice_get (ports_of plan service (record { 0 = edge })) p ≡ Some (port.Spoke wire) → IsPortWire plan service edge false wire
-spoke_port plan service edge p wire checked short at = port_wire plan service edge false wire checked short (served_at plan service (record { 0 = edge }) p (port.Spoke wire) at)
+spoke_port plan service edge p wire checked at = port_wire plan service edge false wire checked (served_at plan service (record { 0 = edge }) p (port.Spoke wire) at)
 
 pub of_mesh : (plan : Plan) (service : ServiceId) (edge : ℕ) (wire : WireId) (at : IsPortWire plan service edge true wire) → is_mesh_of service at.row ≡ true
 of_mesh plan service edge wire at = and_from (is_wire_of service at.row) (is_mesh_class at.row.class)
     (first_holds (is_wire_of service at.row) (is_first edge at.row.path || is_last edge at.row.path) at.ends) at.class
 
 -- of two ends the other one
-pub at_far : (plan : Plan) (service : ServiceId) (edge : ℕ) (row : WirePlan) (link : IsShortLink plan row) → Rattle.net_base.specs.plan.Roles.wire_ends_at service edge row ≡ true
+pub at_far : (plan : Plan) (service : ServiceId) (edge : ℕ) (row : WirePlan) (link : IsLink plan row) → Rattle.net_base.specs.plan.Roles.wire_ends_at service edge row ≡ true
     → (edge == link.near.0) ≡ false → edge ≡ link.far.0
-at_far plan service edge row link ends away = eqb-true edge link.far.0 (rw away at (rw link.path at (second_holds (is_wire_of service row) (is_first edge row.path || is_last edge row.path) ends)))
+at_far plan service edge row link ends away =
+    let there : (edge == link.near.0) || (edge == link.far.0) ≡ true = second_holds (is_wire_of service row) ((edge == link.near.0) || (edge == link.far.0)) (rw (link.path, link.last edge) at ends) in
+    eqb-true edge link.far.0 (rw away at there)
 
 -- ---- a calm state
 
-module _ (plan : Plan) (service : ServiceId) (site : Sites) (calm network : NetworkState) (checked : IsChecked plan) (short : has_short_paths plan service ≡ true) (ordered : IsOrdered plan network) (is_calm_now : is_calm plan network service ≡ true)
+module _ (plan : Plan) (service : ServiceId) (site : Sites) (calm network : NetworkState) (checked : IsChecked plan) (short : has_short_spokes plan service ≡ true) (ordered : IsOrdered plan network) (is_calm_now : is_calm plan network service ≡ true)
     (heals : Heals plan service site calm network) where
   quiet : is_quiet plan network service ≡ true
   quiet = first_holds (is_quiet plan network service) (is_full plan network service)
@@ -164,7 +158,7 @@ module _ (plan : Plan) (service : ServiceId) (site : Sites) (calm network : Netw
       clash (ap (some_message (clears n)) (sym none) ∙ pending.cleared.among)
 
   lives : (x : ℕ) → x < length plan.edges → is_spoke_edge plan service x ≡ true → IsLiveAt plan service network x
-  lives x within starts = live_at plan service network x checked short ordered is_calm_now within starts
+  lives x within starts = live_at plan service network x checked ordered is_calm_now within starts
 
   -- so each entry of a core edge is right
   right_now : (core k : ℕ) (entry : MacEntry) → is_core_edge plan service core ≡ true → slice_get (learned_in service network core) k ≡ Some entry
@@ -178,8 +172,8 @@ module _ (plan : Plan) (service : ServiceId) (site : Sites) (calm network : Netw
         → LeadsHome plan core live.home live.wire (slice_get (ports_of plan service (record { 0 = core })) entry.port)
     by (IsRight leads) = leads
     by (BySpoke pending) = none_pending x live.home live.spoke.row.pw_id live.wire live.spoke.row live.spoke.is
-        (ap (λ (s : ServiceId). s.0 == service.0) link.of_service ∙ same_number service.0) link.joined pending
-    by (ByMesh mesh row at_mesh its joined pending) = none_pending live.home core row.pw_id mesh row at_mesh (first_holds (is_wire_of service row) (is_mesh_class row.class) its) joined pending
+        link.of.ours link.joined pending
+    by (ByMesh mesh row a b at_mesh its far joined goal_is pending) = none_pending a.0 b.0 row.pw_id mesh row at_mesh (first_holds (is_wire_of service row) (is_mesh_class row.class) its) joined pending
 
   module _ (e k : ℕ) (entry : MacEntry) (at : slice_get (learned_in service network e) k ≡ Some entry) where
     abbrev circuit : CircuitId
@@ -189,47 +183,42 @@ module _ (plan : Plan) (service : ServiceId) (site : Sites) (calm network : Netw
     AtPort = slice_get (ports_of plan service (record { 0 = e })) entry.port
 
     by_mesh : (wire : WireId) → AtPort ≡ Some (port.Mesh wire) → reach plan calm service e (port.Mesh wire) circuit ≡ true → reach plan network service e (port.Mesh wire) circuit ≡ true
-    by_mesh wire leads reached = mesh_reach plan service network e wired.peer.0 wire wired.row circuit wired.is link.far ∙ is_beside_by plan service network wired.peer.0 circuit beside.row beside.is beside.of_service there where
+    by_mesh wire leads reached = mesh_reach plan service network e far.other wire wired.row circuit wired.is far.far ∙ is_beside_by plan service network far.other circuit beside.row beside.is beside.of_service there where
       wired : IsPortWire plan service e true wire
-      wired = mesh_port plan service e entry.port wire checked short leads
+      wired = mesh_port plan service e entry.port wire checked leads
 
-      link : IsMeshLink plan service e wired.peer.0 wired.row
-      link = mesh_link plan service e wired.peer.0 wire wired.row checked short wired.is (of_mesh plan service e wire wired) wired.joined
+      far : HasFar plan service wired.row e
+      far = mesh_far plan service e wire wired.row checked wired.is (of_mesh plan service e wire wired) wired.ends
 
-      beside : IsBeside plan service calm wired.peer.0 circuit
-      beside = beside_is plan service calm wired.peer.0 circuit (sym (mesh_reach plan service calm e wired.peer.0 wire wired.row circuit wired.is link.far) ∙ reached)
+      beside : IsBeside plan service calm far.other circuit
+      beside = beside_is plan service calm far.other circuit (sym (mesh_reach plan service calm e far.other wire wired.row circuit wired.is far.far) ∙ reached)
 
       x : ℕ
       x = beside.row.edge.0
 
       -- the home of its spoke edge is the one to which the mesh wire leads
-      home_now : is_spoke_edge plan service x ≡ true → is_home wired.peer.0 (home_of plan network service x) ≡ true
+      home_now : is_spoke_edge plan service x ≡ true → is_home far.other (home_of plan network service x) ≡ true
       home_now starts =
           let live = lives x (circuit_within plan circuit beside.row checked beside.is) starts in
           let right : LeadsHome plan e live.home live.wire (Some (port.Mesh wire)) =
-          subst (LeadsHome plan e live.home live.wire) leads (right_now e k entry link.one_core at x live (at_own_edge plan service circuit beside.row beside.is beside.of_service)) in
+          subst (LeadsHome plan e live.home live.wire) leads (right_now e k entry far.core at x live (at_own_edge plan service circuit beside.row beside.is beside.of_service)) in
           let rows : right.row ≡ wired.row = some_same (sym right.is ∙ wired.is) in
-          let homes : live.home ≡ wired.peer.0 = some_same
-          (sym (far_is right.row.path e live.home (has_two plan service wire right.row short
-          (subst (λ (r : WirePlan). is_wire_of service r ≡ true) (sym rows) link.ours) right.is) right.joined) ∙ (ap (λ (r : WirePlan). far_of e r.path) rows ∙ link.far)) in
-          ap (is_home wired.peer.0) live.home_is ∙ (ap (λ (n : ℕ). n == wired.peer.0) homes ∙ same_number wired.peer.0)
+          let homes : live.home ≡ far.other = some_same (sym right.far ∙ (ap (λ (r : WirePlan). far_of e r.path) rows ∙ far.far)) in
+          ap (is_home far.other) live.home_is ∙ (ap (λ (n : ℕ). n == far.other) homes ∙ same_number far.other)
 
-      by_case : (here starts home : Bool) → (starts ≡ true → is_home wired.peer.0 (home_of plan network service x) ≡ true) → here || (starts && home) ≡ true
-          → here || (starts && is_home wired.peer.0 (home_of plan network service x)) ≡ true
+      by_case : (here starts home : Bool) → (starts ≡ true → is_home far.other (home_of plan network service x) ≡ true) → here || (starts && home) ≡ true
+          → here || (starts && is_home far.other (home_of plan network service x)) ≡ true
       by_case true starts home now was = refl
       by_case false true home now was = now refl
       by_case false false home now was = clash was
 
-      there : x == wired.peer.0 || (is_spoke_edge plan service x && is_home wired.peer.0 (home_of plan network service x)) ≡ true
-      there = by_case (x == wired.peer.0) (is_spoke_edge plan service x) (is_home wired.peer.0 (home_of plan calm service x)) home_now beside.where_is
+      there : x == far.other || (is_spoke_edge plan service x && is_home far.other (home_of plan network service x)) ≡ true
+      there = by_case (x == far.other) (is_spoke_edge plan service x) (is_home far.other (home_of plan calm service x)) home_now beside.where_is
 
     by_spoke : (wire : WireId) → AtPort ≡ Some (port.Spoke wire) → reach plan calm service e (port.Spoke wire) circuit ≡ true → reach plan network service e (port.Spoke wire) circuit ≡ true
     by_spoke wire leads reached = reach_spoke plan service network e wire wired.row wired.link circuit wired.is (record { from = was.from; live = live_now; behind = was.behind }) where
       wired : IsPortWire plan service e false wire
-      wired = spoke_port plan service e entry.port wire checked short leads
-
-      link : IsShortLink plan wired.row
-      link = wired.link
+      wired = spoke_port plan service e entry.port wire checked leads
 
       was : IsBehindSpoke plan service calm e wire wired.row wired.link circuit
       was = behind_is plan service calm e wire wired.row wired.link circuit wired.is reached
@@ -237,8 +226,8 @@ module _ (plan : Plan) (service : ServiceId) (site : Sites) (calm network : Netw
       spoke : IsSpokeTo plan service wired.link.near.0 wire wired.link.far.0
       spoke = spoke_at_link plan service wired.link.near.0 wire.0 wired.row wired.link wired.is was.from
 
-      spoke_is : IsSpokeLink plan service wired.link.near.0 wired.link.far.0 spoke.row
-      spoke_is = spoke_link plan service wired.link.near.0 wire wired.link.far.0 checked short spoke
+      spoke_is : IsSpokeOf plan service wired.link.near.0 wired.link.far.0 spoke.row
+      spoke_is = spoke_of plan service wired.link.near.0 wire wired.link.far.0 checked spoke
 
       live : IsLiveAt plan service network wired.link.near.0
       live = lives wired.link.near.0 wired.link.near_within spoke_is.starts
@@ -253,7 +242,7 @@ module _ (plan : Plan) (service : ServiceId) (site : Sites) (calm network : Netw
       by_side true here behind =
           let same : e ≡ wired.link.near.0 = eqb-true e wired.link.near.0 here in
           let up : end_forwards plan (network.edges e) wire ≡ true = all_get (IsAtLive plan service e (network.edges e)) (learned_in service network e) k entry (heals.live e) at wire leads in
-          carried (live_same plan service network wired.link.near.0 wire wired.link.far.0 checked short ordered live spoke (subst (λ (n : ℕ). end_forwards plan (network.edges n) wire ≡ true) same up))
+          carried (live_same plan service network wired.link.near.0 wire wired.link.far.0 checked ordered live spoke (subst (λ (n : ℕ). end_forwards plan (network.edges n) wire ≡ true) same up))
       by_side false away behind =
           let far : e ≡ wired.link.far.0 = at_far plan service e wired.row wired.link wired.ends away in
           let core : is_core_edge plan service e ≡ true = subst (λ (n : ℕ). is_core_edge plan service n ≡ true) (sym far) spoke_is.core in

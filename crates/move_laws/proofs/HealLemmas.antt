@@ -5,7 +5,7 @@ use Rattle.flight_laws.proofs.RunLemmas.{run_ordered, step_keeps}
 use Rattle.flight_laws.specs.Ends.{HasTypes, IsOrdered}
 use Rattle.flight_laws.specs.Laws.{IsRun, network_after}
 use Rattle.flood_laws.specs.Deliveries.{is_delivery}
-use Rattle.move_laws.specs.Moves.{has_short_paths}
+use Rattle.move_laws.specs.Moves.{has_short_spokes}
 use Rattle.move_laws.proofs.DeliverHealLemmas.{HasMeshes, deliver_heals}
 use Rattle.move_laws.proofs.EndHealLemmas.{end_points}
 use Rattle.move_laws.proofs.MoveHealLemmas.{move_heals}
@@ -33,7 +33,7 @@ record HealsAt (plan : Plan) (service : ServiceId) (site : Sites) (calm network 
   ordered : IsOrdered plan network
   heals : Heals plan service site calm network
 
-module _ (plan : Plan) (service : ServiceId) (site : Sites) (calm : NetworkState) (checked : IsChecked plan) (types : HasTypes plan) (short : has_short_paths plan service ≡ true) (meshed : HasMeshes plan service) where
+module _ (plan : Plan) (service : ServiceId) (site : Sites) (calm : NetworkState) (checked : IsChecked plan) (types : HasTypes plan) (short : has_short_spokes plan service ≡ true) (meshed : HasMeshes plan service) where
   deliveries_heal : (events : List Event) (network : NetworkState) → All (IsEventOf plan) events → list_all is_delivery events ≡ true → HealsAt plan service site calm network
       → HealsAt plan service site calm (state_after plan network events)
   deliveries_heal [] network planned all heals = heals
@@ -60,9 +60,9 @@ runs_heal_moves plan events run before move deliveries after service site are sh
     let moved : NetworkState = (step plan network move).state in
     let planned : IsEventOf plan move = All-head (IsEventOf plan) move (deliveries ++ after) parts.1 in
     let ordered : IsOrdered plan network = run_ordered plan before first in
-    let began : Heals plan service site network network = start_heals plan before service site first short starts in
+    let began : Heals plan service site network network = start_heals plan before service site first starts in
     let last : HealsAt plan service site network (state_after plan moved deliveries) =
-    deliveries_heal plan service site network run.checked run.types short (all_meshes plan network service run.checked short starts.calm) deliveries moved more.0 all (record {
+    deliveries_heal plan service site network run.checked run.types short (all_meshes plan network service run.checked starts.calm) deliveries moved more.0 all (record {
       ordered = (step_keeps plan move network run.checked run.types planned ordered).ordered;
       heals = move_heals plan service site network network move run.checked run.types short planned ordered began moves;
     }) in

@@ -1,6 +1,7 @@
 pub mod ShortLinkLemmas
 pub mod WireLemmas
 pub mod PendingLemmas
+pub mod KeepMeshLemmas
 pub mod SpeakLemmas
 pub mod ForgetLemmas
 pub mod StayLemmas
@@ -9,6 +10,8 @@ pub mod ChoiceLemmas
 pub mod LiveLemmas
 pub mod LiveSpokeLemmas
 pub mod MendHealLemmas
+pub mod BeyondLemmas
+pub mod PassingLemmas
 pub mod ClearLemmas
 pub mod ActHealLemmas
 pub mod HearHealLemmas

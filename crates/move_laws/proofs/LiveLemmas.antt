@@ -11,15 +11,14 @@ use Rattle.edge_model.specs.State.{EdgeState, without_port}
 use Rattle.edge_model.specs.Work.{Work}
 use Rattle.edge_model.specs.declared.end_place.EndPlace.{EndPlace}
 use Rattle.flight_laws.proofs.PlaceLemmas.{find_holds}
-use Rattle.move_laws.specs.Moves.{has_short_paths}
 use Rattle.hvpls_spokes.proofs.PortsLemmas.{IsWired}
 use Rattle.hvpls_spokes.proofs.WirePortLemmas.{LeadsToWire, found_wire_port, leads_by_spoke, same_wire_port, wired_at}
 use Rattle.hvpls_spokes.specs.Port.{is_wire_port, ports_of}
 use Rattle.hvpls_spokes.specs.declared.port.Port.TheVariants as port
 use Rattle.mac_table.specs.declared.mac_entry.MacEntry.{MacEntry}
 use Rattle.flood_laws.proofs.ChoiceLemmas.{all_by_place, filter_at}
-use Rattle.move_laws.proofs.ShortLinkLemmas.{IsShortLink, short_link}
-use Rattle.move_laws.proofs.WireLemmas.{HasPortAt, IsLinkEnd, link_end, port_found, service_is}
+use Rattle.flood_laws.proofs.LinkLemmas.{link_at}
+use Rattle.move_laws.proofs.WireLemmas.{HasNext, HasPortAt, IsLinkEnd, link_end, next_of, port_found, service_is}
 use Rattle.move_laws.specs.Healing.{IsAtLive}
 use Rattle.net_base.specs.declared.plan.Plan.{Plan}
 use Rattle.net_base.specs.declared.plan.places.EdgeId.{EdgeId}
@@ -28,39 +27,18 @@ use Rattle.net_base.specs.declared.plan.places.WireId.{WireId}
 use Rattle.net_base.specs.declared.plan.wire_plan.WirePlan.{WirePlan}
 use Rattle.net_base.specs.declared.trace.down.Down.{Down}
 use Rattle.net_base.specs.plan.Accepted.{IsChecked}
-use Rattle.net_base.specs.plan.Paths.{is_first, is_last, joins}
+use Rattle.net_base.specs.plan.Paths.{is_first, is_last}
 use Rattle.net_base.specs.plan.Places.{wire_row}
 use Rattle.net_base.specs.plan.Roles.{is_wire_of}
 use Rattle.network_model.specs.Absorb.{taken_all}
-use Rattle.std.proofs.Common.{Bool, List, None, Option, Some, ap, arith, false, filter, is_some, not, position, refl, slice_get, subst, sym, true, ℕ, ◌&&◌, ◌==◌, ◌||◌, ◌∙◌, ◌≡◌}
-use Rattle.std.proofs.lemmas.Bool.Decides.{nat_tests}
+use Rattle.std.proofs.Common.{Bool, List, None, Option, Some, ap, false, filter, is_some, not, position, refl, slice_get, subst, sym, true, ℕ, ◌==◌, ◌||◌, ◌∙◌, ◌≡◌}
 use Rattle.std.specs.List.{AllByRecursion}
-use Rattle.net_values.proofs.BoolLemmas.{first_holds, clash, second_holds}
+use Rattle.net_values.proofs.BoolLemmas.{first_holds, clash}
 use Rattle.net_values.proofs.NumberLemmas.{same_number}
 
--- the other edge of a wire that ends at an edge
-pub record HasOther (plan : Plan) (me : EdgeId) (row : WirePlan) : Type 0 where
-  pub peer : EdgeId
-  pub joined : joins me.0 peer.0 row.path ≡ true
-
-pub other_of : (plan : Plan) (service : ServiceId) (me : EdgeId) (row : WirePlan) → IsShortLink plan row → Rattle.net_base.specs.plan.Roles.wire_ends_at service me.0 row ≡ true → HasOther plan me row
-other_of plan service me row link ends = by (me.0 == link.near.0) refl where
-  ends_there : (me.0 == link.near.0) || (me.0 == link.far.0) ≡ true
-  ends_there = rw link.path at (second_holds (is_wire_of service row) (is_first me.0 row.path || is_last me.0 row.path) ends)
-
-  at_near : (m n f : ℕ) → (m == n) ≡ true → ((m == n && f == f) || (f == n && m == f)) || false ≡ true
-  at_near m n f is = grind (arith, nat_tests)
-
-  at_far : (m n f : ℕ) → (m == n) ≡ false → (m == n) || (m == f) ≡ true → ((m == n && n == f) || (n == n && m == f)) || false ≡ true
-  at_far m n f is there = grind (arith, nat_tests)
-
-  by : (b : Bool) → (me.0 == link.near.0) ≡ b → HasOther plan me row
-  by true is = record { peer = link.far; joined = rw link.path (at_near me.0 link.near.0 link.far.0 is) }
-  by false is = record { peer = link.near; joined = rw link.path (at_far me.0 link.near.0 link.far.0 is ends_there) }
-
-pub mends_live : (plan : Plan) (service : ServiceId) (me : EdgeId) (work : Work) → IsChecked plan → has_short_paths plan service ≡ true → work.edge.me ≡ me
+pub mends_live : (plan : Plan) (service : ServiceId) (me : EdgeId) (work : Work) → IsChecked plan → work.edge.me ≡ me
     → AllByRecursion (IsAtLive plan service me.0 (mends plan taken_all work).edge) ((mends plan taken_all work).edge.learned service.0)
-mends_live plan service me work checked short placed = all_by_place (IsAtLive plan service me.0 edge) (edge.learned service.0) (λ k entry at wire leads. live k entry at wire leads) where
+mends_live plan service me work checked placed = all_by_place (IsAtLive plan service me.0 edge) (edge.learned service.0) (λ k entry at wire leads. live k entry at wire leads) where
   edge : EdgeState
   edge = (mends plan taken_all work).edge
 
@@ -89,14 +67,11 @@ mends_live plan service me work checked short placed = all_by_place (IsAtLive pl
     row : WirePlan
     row = wired.row
 
-    served : is_wire_of service row ≡ true
-    served = first_holds (is_wire_of service row) (is_first me.0 row.path || is_last me.0 row.path) wired.ends
-
-    other : HasOther plan me row
-    other = other_of plan service me row (short_link plan service wire.0 row checked short served wired.is) wired.ends
+    other : HasNext row.path me.0
+    other = next_of plan service row me.0 (link_at plan wire.0 row checked wired.is) wired.ends
 
     end : IsLinkEnd plan me other.peer wire row
-    end = link_end plan service me other.peer wire row checked short served wired.is other.joined
+    end = link_end plan service me other.peer wire row checked wired.ends wired.is other.joined
 
     place : EndPlace
     place = end.place
@@ -105,7 +80,7 @@ mends_live plan service me work checked short placed = all_by_place (IsAtLive pl
     found = ap (λ (e : EdgeId). wire_end plan e wire) me_is ∙ end.found
 
     ours : row.service ≡ service
-    ours = service_is row service served
+    ours = service_is row service (first_holds (is_wire_of service row) (is_first me.0 row.path || is_last me.0 row.path) wired.ends)
 
     here : HasPortAt plan service me wire row
     here = port_found plan service me wire row wired.is wired.ends

@@ -3,18 +3,18 @@ use Rattle.edge_model.specs.Ends.{end_forwards, forwards_at, wire_end}
 use Rattle.edge_model.specs.Role.{down_at, end_role_of, is_chosen, role_at, role_in}
 use Rattle.edge_model.specs.State.{EdgeState, end_at}
 use Rattle.edge_model.proofs.CopyLemmas.{up_is_none}
-use Rattle.flight_laws.proofs.PlaceLemmas.{wire_apart}
+use Rattle.flight_laws.proofs.RuledMendLemmas.{wire_fits}
 use Rattle.flight_laws.specs.Ends.{IsOrdered}
 use Rattle.flight_laws.specs.Facts.{flight}
 use Rattle.flight_laws.proofs.BoundRunLemmas.{drained_flight}
-use Rattle.flood_laws.proofs.DueLemmas.{forwards}
 use Rattle.flood_laws.proofs.HomeLemmas.{LiveSpoke, live_count, live_found}
-use Rattle.flood_laws.proofs.MeshLemmas.{mesh_wire}
+use Rattle.flood_laws.proofs.HopLemmas.{sent_far}
+use Rattle.flood_laws.proofs.LinkLemmas.{IsLink, link_at}
+use Rattle.flood_laws.proofs.MeshLemmas.{MeshWire, mesh_wire}
+use Rattle.flood_laws.proofs.WireEdgeLemmas.{AreSides, IsFar, IsNear, far_of_far, far_of_near}
 use Rattle.flood_laws.proofs.ChosenLemmas.{not_chosen_down}
-use Rattle.move_laws.specs.Moves.{has_short_paths}
 use Rattle.move_laws.proofs.HearHealLemmas.{MeshesTo}
-use Rattle.move_laws.proofs.ShortLinkLemmas.{IsShortLink, short_link}
-use Rattle.move_laws.proofs.WireLemmas.{IsLinkEnd, IsSpokeLink, link_end, spoke_link}
+use Rattle.move_laws.proofs.WireLemmas.{HasNext, IsLinkEnd, IsSpokeOf, link_end, next_of, spoke_of}
 use Rattle.move_laws.specs.Healing.{IsSpokeTo}
 use Rattle.net_base.specs.declared.plan.Plan.{Plan}
 use Rattle.net_base.specs.declared.plan.places.EdgeId.{EdgeId}
@@ -22,21 +22,21 @@ use Rattle.net_base.specs.declared.plan.places.ServiceId.{ServiceId}
 use Rattle.net_base.specs.declared.plan.places.WireId.{WireId}
 use Rattle.net_base.specs.declared.plan.wire_plan.WirePlan.{WirePlan}
 use Rattle.net_base.specs.plan.Accepted.{IsChecked}
-use Rattle.net_base.specs.plan.Paths.{is_first, is_last}
+use Rattle.net_base.specs.plan.Paths.{is_first, is_last, last_edge}
 use Rattle.net_base.specs.plan.Places.{is_mesh_class, wire_row}
-use Rattle.net_base.specs.plan.Roles.{is_core_edge, is_mesh_of, is_spoke_edge, is_spoke_from, is_wire_of}
+use Rattle.net_base.specs.plan.Roles.{is_core_edge, is_mesh_of, is_spoke_edge, is_spoke_from, is_wire_of, wire_ends_at}
 use Rattle.net_base.proofs.CommonLemmas.{same_row}
-use Rattle.network_model.specs.Calm.{carries, is_calm, is_drained, is_live_spoke, is_settled}
-use Rattle.network_model.specs.Reach.{home_of, last_place}
+use Rattle.network_model.specs.Calm.{carries, first_forwards, is_calm, is_drained, is_joined_up, is_live_spoke, is_settled, last_forwards}
+use Rattle.network_model.specs.Reach.{far_of, home_of, last_place}
 use Rattle.network_model.specs.State.{NetworkState, stands}
 use Rattle.pw_signalling.specs.Down.{down}
 use Rattle.pw_signalling.specs.declared.end_role.EndRole.TheVariants as role
 use Rattle.pw_signalling.specs.declared.end_role.EndRole.{EndRole}
-use Rattle.std.proofs.Common.{Bool, List, None, Option, Some, [], ap, arith, cond, false, length, nat_eq, not, refl, slice_get, subst, sym, true, ℕ, ◌&&◌, ◌<◌, ◌==◌, ◌||◌, ◌∙◌, ◌∷◌, ◌≡◌}
-use Rattle.std.proofs.lemmas.Bool.Decides.{nat_tests}
-use Rattle.std.proofs.lemmas.Bool.{eqb-true}
-use Rattle.net_values.proofs.BoolLemmas.{first_holds, clash, second_holds}
+use Rattle.std.proofs.Common.{Bool, List, None, Option, Some, [], ap, cond, false, inl, inr, length, nat_eq, not, option_map, refl, slice_get, subst, sym, true, ℕ, ◌&&◌, ◌<◌, ◌==◌, ◌||◌, ◌∙◌, ◌∷◌, ◌≡◌}
+use Rattle.std.proofs.lemmas.Bool.{and_from, and_parts, cases_Bool, eqb-true}
+use Rattle.net_values.proofs.BoolLemmas.{first_holds, clash, second_holds, second_of_two}
 use Rattle.net_values.proofs.NumberLemmas.{same_number, apart_back, from_none}
+use Rattle.net_values.proofs.OptionLemmas.{some_same}
 
 -- ---- an end that forwards
 
@@ -47,31 +47,31 @@ forwards_end plan edge me peer wire row end placed up =
     up_is_none (down_at plan edge end.place) (ap (forwards_at plan edge) (sym (ap (λ (e : EdgeId). wire_end plan e wire) placed ∙ end.found)) ∙ up)
 
 -- a spoke edge forwards only by the spoke that it has chosen
-pub chosen_forwards : (plan : Plan) (service : ServiceId) (edge : EdgeState) (x : ℕ) (wire : WireId) (home : ℕ) → IsChecked plan → has_short_paths plan service ≡ true → edge.me
+pub chosen_forwards : (plan : Plan) (service : ServiceId) (edge : EdgeState) (x : ℕ) (wire : WireId) (home : ℕ) → IsChecked plan → edge.me
     ≡ record { 0 = x } → (spoke : IsSpokeTo plan service x wire home)
     → end_forwards plan edge wire ≡ true → edge.chosen service.0 ≡ Some wire
-chosen_forwards plan service edge x wire home checked short placed spoke up = by (is_chosen edge.chosen wire spoke.row) refl where
-  link : IsSpokeLink plan service x home spoke.row
-  link = spoke_link plan service x wire home checked short spoke
+chosen_forwards plan service edge x wire home checked placed spoke up = by (is_chosen edge.chosen wire spoke.row) refl where
+  of : IsSpokeOf plan service x home spoke.row
+  of = spoke_of plan service x wire home checked spoke
 
-  end : IsLinkEnd plan (record { 0 = x }) (record { 0 = home }) wire spoke.row
-  end = link_end plan service (record { 0 = x }) (record { 0 = home }) wire spoke.row checked short link.ours spoke.is link.joined
+  next : HasNext spoke.row.path x
+  next = next_of plan service spoke.row x of.link of.ends
+
+  end : IsLinkEnd plan (record { 0 = x }) next.peer wire spoke.row
+  end = link_end plan service (record { 0 = x }) next.peer wire spoke.row checked of.ends spoke.is next.joined
 
   down_is : down_at plan edge end.place ≡ None
-  down_is = forwards_end plan edge (record { 0 = x }) (record { 0 = home }) wire spoke.row end placed up
-
-  apart : (x == home) ≡ false
-  apart = wire_apart plan wire spoke.row x home checked spoke.is link.joined
+  down_is = forwards_end plan edge (record { 0 = x }) next.peer wire spoke.row end placed up
 
   not_last : is_last x spoke.row.path ≡ false
-  not_last = ap (is_last x) link.path ∙ apart
+  not_last = ap (is_last x) of.link.path ∙ (of.link.last x ∙ (ap (λ (n : ℕ). n == of.link.far.0) of.first ∙ of.link.apart))
 
   role_is : (b : Bool) → is_chosen edge.chosen wire spoke.row ≡ b → role_at plan edge end.place ≡ cond b role.Chosen role.NotChosen
   role_is b is =
       ap (λ (w : WireId). role_in (wire_row plan w) edge.me edge.chosen w) end.wire_is
       ∙ (ap (λ (o : Option WirePlan). role_in o edge.me edge.chosen wire) spoke.is
       ∙ (ap (λ (e : EdgeId). end_role_of spoke.row e (is_chosen edge.chosen wire spoke.row)) placed
-      ∙ (ap (λ (m : Bool). cond m role.Mesh (cond (is_last x spoke.row.path) role.Core (cond (is_chosen edge.chosen wire spoke.row) role.Chosen role.NotChosen))) link.class
+      ∙ (ap (λ (m : Bool). cond m role.Mesh (cond (is_last x spoke.row.path) role.Core (cond (is_chosen edge.chosen wire spoke.row) role.Chosen role.NotChosen))) of.class
       ∙ (ap (λ (l : Bool). cond l role.Core (cond (is_chosen edge.chosen wire spoke.row) role.Chosen role.NotChosen)) not_last
       ∙ ap (λ (c : Bool). cond c role.Chosen role.NotChosen) is))))
 
@@ -80,18 +80,29 @@ chosen_forwards plan service edge x wire home checked short placed spoke up = by
   some_wire (Some other) is = ap (λ (n : ℕ). Some (record { 0 = n })) (eqb-true other.0 wire.0 is)
 
   by : (b : Bool) → is_chosen edge.chosen wire spoke.row ≡ b → edge.chosen service.0 ≡ Some wire
-  by true is = some_wire (edge.chosen service.0) (subst (λ (s : ServiceId). Rattle.edge_model.specs.Role.is_chosen_wire wire (edge.chosen s.0) ≡ true) link.of_service is)
+  by true is = some_wire (edge.chosen service.0) (subst (λ (s : ServiceId). Rattle.edge_model.specs.Role.is_chosen_wire wire (edge.chosen s.0) ≡ true) of.of_service is)
   by false is = not_chosen_down (edge.bits end.place.wire.0) (end_at edge end.place)
       (ap (λ (r : EndRole). down r (edge.bits end.place.wire.0) (end_at edge end.place)) (sym (role_is false is)) ∙ down_is)
 
 -- ---- the spoke that carries frames
 
--- a wire of two edges that carries frames forwards at both
-pub carries_ends : (plan : Plan) (network : NetworkState) (k : ℕ) (row : WirePlan) (link : IsShortLink plan row) → carries plan network k row ≡ true
+last_at : (plan : Plan) (network : NetworkState) (k : ℕ) (path : List EdgeId) (far : EdgeId) → last_edge path ≡ Some far
+    → last_forwards plan network k path ≡ end_forwards plan (network.edges far.0) (record { 0 = k })
+last_at plan network k [] far is = absurd (cc (is))
+last_at plan network k (last ∷ []) far is =
+    let same : last ≡ far = cc (is) in
+    ap (λ (e : EdgeId). end_forwards plan (network.edges e.0) (record { 0 = k })) same
+last_at plan network k (first ∷ next ∷ rest) far is = last_at plan network k (next ∷ rest) far is
+
+-- a wire that carries frames forwards at both its terminal edges
+pub carries_ends : (plan : Plan) (network : NetworkState) (k : ℕ) (row : WirePlan) (link : IsLink plan row) → carries plan network k row ≡ true
     → (end_forwards plan (network.edges link.near.0) (record { 0 = k }) ≡ true) × (end_forwards plan (network.edges link.far.0) (record { 0 = k }) ≡ true)
 carries_ends plan network k row link live =
-    let both = first_holds (forwards plan network link.near.0 k && forwards plan network link.far.0 k) true (rw link.path at live) in
-    (first_holds (forwards plan network link.near.0 k) (forwards plan network link.far.0 k) both, second_holds (forwards plan network link.near.0 k) (forwards plan network link.far.0 k) both)
+    let both = first_holds (first_forwards plan network k row.path && last_forwards plan network k row.path) (is_joined_up plan network k row.path) live in (
+      sym (ap (first_forwards plan network k) link.path) ∙ first_holds (first_forwards plan network k row.path) (last_forwards plan network k row.path) both,
+      sym (ap (last_forwards plan network k) link.path ∙ last_at plan network k (link.near ∷ link.rest) link.far link.ends)
+          ∙ second_holds (first_forwards plan network k row.path) (last_forwards plan network k row.path) both,
+    )
 
 -- a spoke of the service, by its place
 pub record IsLiveAt (plan : Plan) (service : ServiceId) (network : NetworkState) (x : ℕ) : Type 0 where
@@ -103,26 +114,23 @@ pub record IsLiveAt (plan : Plan) (service : ServiceId) (network : NetworkState)
   pub chosen : (network.edges x).chosen service.0 ≡ Some wire
 
 -- a spoke from an edge leads to the far edge of its path
-pub spoke_at_link : (plan : Plan) (service : ServiceId) (x k : ℕ) (row : WirePlan) (link : IsShortLink plan row) → slice_get plan.wires k ≡ Some row → is_spoke_from service x row
+pub spoke_at_link : (plan : Plan) (service : ServiceId) (x k : ℕ) (row : WirePlan) (link : IsLink plan row) → slice_get plan.wires k ≡ Some row → is_spoke_from service x row
     ≡ true → IsSpokeTo plan service x (record { 0 = k }) link.far.0
-spoke_at_link plan service x k row link is from = record { row = row; is = is; from = from; to = ap (is_last link.far.0) link.path ∙ same_number link.far.0 }
+spoke_at_link plan service x k row link is from = record { row = row; is = is; from = from; to = ap (is_last link.far.0) link.path ∙ (link.last link.far.0 ∙ same_number link.far.0) }
 
-pub near_of : (plan : Plan) (service : ServiceId) (x : ℕ) (row : WirePlan) (link : IsShortLink plan row) → is_spoke_from service x row ≡ true → x ≡ link.near.0
+pub near_of : (plan : Plan) (service : ServiceId) (x : ℕ) (row : WirePlan) (link : IsLink plan row) → is_spoke_from service x row ≡ true → x ≡ link.near.0
 near_of plan service x row link from = eqb-true x link.near.0 (ap (is_first x) (sym link.path) ∙ second_holds (is_wire_of service row && not (is_mesh_class row.class)) (is_first x row.path) from)
 
-pub live_at : (plan : Plan) (service : ServiceId) (network : NetworkState) (x : ℕ) → IsChecked plan → has_short_paths plan service ≡ true → IsOrdered plan network
+pub live_at : (plan : Plan) (service : ServiceId) (network : NetworkState) (x : ℕ) → IsChecked plan → IsOrdered plan network
     → is_calm plan network service ≡ true → x < length plan.edges → is_spoke_edge plan service x ≡ true
     → IsLiveAt plan service network x
 unfolding spoke_at_link
-live_at plan service network x checked short ordered calm within starts = from (live_found plan network service x 0 plan.wires (live_count plan network service x calm within starts)) where
+live_at plan service network x checked ordered calm within starts = from (live_found plan network service x 0 plan.wires (live_count plan network service x calm within starts)) where
   from : LiveSpoke plan network service x 0 plan.wires → IsLiveAt plan service network x
   from found =
       let live : is_live_spoke plan network service x found.k found.row ≡ true = subst (λ (n : ℕ). is_live_spoke plan network service x n found.row ≡ true) (from_none found.k) found.live in
       let starts_here : is_spoke_from service x found.row ≡ true = first_holds (is_spoke_from service x found.row) (carries plan network found.k found.row) live in
-      let ours : is_wire_of service found.row ≡ true =
-      first_holds (is_wire_of service found.row) (not (is_mesh_class found.row.class))
-      (first_holds (is_wire_of service found.row && not (is_mesh_class found.row.class)) (is_first x found.row.path) starts_here) in
-      let link : IsShortLink plan found.row = short_link plan service found.k found.row checked short ours found.is in
+      let link : IsLink plan found.row = link_at plan found.k found.row checked found.is in
       let carried : carries plan network found.k found.row ≡ true = second_holds (is_spoke_from service x found.row) (carries plan network found.k found.row) live in
       let spoke : IsSpokeTo plan service x (record { 0 = found.k }) link.far.0 = spoke_at_link plan service x found.k found.row link found.is starts_here in
       let up : end_forwards plan (network.edges x) (record { 0 = found.k }) ≡ true =
@@ -133,39 +141,26 @@ live_at plan service network x checked short ordered calm within starts = from (
         home = link.far.0;
         spoke = spoke;
         live = carried;
-        home_is = found.home ∙ ap last_place link.path;
-        chosen = chosen_forwards plan service (network.edges x) x (record { 0 = found.k }) link.far.0 checked short (ordered.placed x) spoke up;
+        home_is = found.home ∙ (ap last_place link.path ∙ ap (option_map (λ (e : EdgeId). e.0)) link.ends);
+        chosen = chosen_forwards plan service (network.edges x) x (record { 0 = found.k }) link.far.0 checked (ordered.placed x) spoke up;
       }
 
 -- where the edge forwards by a spoke, that one is it
-pub live_same : (plan : Plan) (service : ServiceId) (network : NetworkState) (x : ℕ) (wire : WireId) (home : ℕ) → IsChecked plan → has_short_paths plan service ≡ true
+pub live_same : (plan : Plan) (service : ServiceId) (network : NetworkState) (x : ℕ) (wire : WireId) (home : ℕ) → IsChecked plan
     → IsOrdered plan network → (at : IsLiveAt plan service network x) → (spoke : IsSpokeTo plan service x wire home)
     → end_forwards plan (network.edges x) wire ≡ true → wire ≡ at.wire
-live_same plan service network x wire home checked short ordered at spoke up =
-    one (sym (chosen_forwards plan service (network.edges x) x wire home checked short (ordered.placed x) spoke up) ∙ at.chosen)
+live_same plan service network x wire home checked ordered at spoke up =
+    one (sym (chosen_forwards plan service (network.edges x) x wire home checked (ordered.placed x) spoke up) ∙ at.chosen)
   where
     one : {a b : WireId} → Some a ≡ Some b → a ≡ b
     one e = cc
 
 -- one wire leads to one home
-pub home_same : (plan : Plan) (service : ServiceId) (x : ℕ) (wire : WireId) (a b : ℕ) → IsChecked plan → has_short_paths plan service ≡ true → IsSpokeTo plan service x wire a
-    → IsSpokeTo plan service x wire b → a ≡ b
-home_same plan service x wire a b checked short one other =
+pub home_same : (plan : Plan) (service : ServiceId) (x : ℕ) (wire : WireId) (a b : ℕ) → IsChecked plan → IsSpokeTo plan service x wire a → IsSpokeTo plan service x wire b → a ≡ b
+home_same plan service x wire a b checked one other =
     let rows : one.row ≡ other.row = same_row (sym one.is ∙ other.is) in
-    let first = (spoke_link plan service x wire a checked short one).path in
-    let second = (spoke_link plan service x wire b checked short other).path in
-    last_of (sym first ∙ (ap (λ (r : WirePlan). r.path) rows ∙ second))
-  where
-    second_of : List EdgeId → ℕ
-    second_of [] = 0
-    second_of (only ∷ []) = 0
-    second_of (first ∷ next ∷ rest) = next.0
-
-    path_to : ℕ → List EdgeId
-    path_to n = record { 0 = x } ∷ record { 0 = n } ∷ []
-
-    last_of : path_to a ≡ path_to b → a ≡ b
-    last_of e = ap second_of e
+    let of : IsSpokeOf plan service x a one.row = spoke_of plan service x wire a checked one in
+    of.last ∙ sym (eqb-true b of.link.far.0 (sym (of.link.last b) ∙ (ap (is_last b) (sym of.link.path) ∙ (ap (λ (r : WirePlan). is_last b r.path) rows ∙ other.to))))
 
 -- ---- quiet states
 
@@ -188,20 +183,60 @@ quiet_way network a b settled there = by (stands network a b) (stands network b 
 
 -- ---- each two core edges have a mesh wire
 
-pub has_meshes : (plan : Plan) (network : NetworkState) (service : ServiceId) → IsChecked plan → has_short_paths plan service ≡ true → is_calm plan network service ≡ true → (a b : ℕ)
+both_ends : (a b n f : ℕ) → (a == n && b == f) || (b == n && a == f) ≡ true → AreSides n f a b
+both_ends a b n f is = elim (cases_Bool (a == n && b == f)) [
+  | inl here ↦ (let both = and_parts (a == n) (b == f) here in IsNear (eqb-true a n both.0) (eqb-true b f both.1))
+  | inr away ↦ (let both = and_parts (b == n) (a == f) (second_of_two (a == n && b == f) away is) in IsFar (eqb-true a f both.1) (eqb-true b n both.0))
+]
+
+pub has_meshes : (plan : Plan) (network : NetworkState) (service : ServiceId) → IsChecked plan → is_calm plan network service ≡ true → (a b : ℕ)
     → a < length plan.edges → b < length plan.edges
     → is_core_edge plan service a ≡ true → is_core_edge plan service b ≡ true → nat_eq b a ≡ false → MeshesTo plan service a b
-has_meshes plan network service checked short calm a b within also one other apart =
-    let found = mesh_wire plan network service a b calm within also one other (apart_back b a apart) in
-    let of_mesh : is_mesh_of service found.row ≡ true = first_holds (is_mesh_of service found.row) _ found.between in
-    let link : IsShortLink plan found.row = short_link plan service found.k found.row checked short (first_holds (is_wire_of service found.row) (is_mesh_class found.row.class) of_mesh) found.is in
-    record {
-      wire = record { 0 = found.k };
-      row = found.row;
-      is = found.is;
-      of_mesh = of_mesh;
-      joined = rw link.path (joins_them a b link.near.0 link.far.0 (rw link.path at (second_holds (is_mesh_of service found.row) _ found.between)));
-    }
+has_meshes plan network service checked calm a b within also one other apart = record {
+  wire = record { 0 = found.k };
+  row = found.row;
+  is = found.is;
+  of_mesh = of_mesh;
+  ends = ends;
+  back = far.1;
+  next = next.peer;
+  joined = next.joined;
+  goal_is = some_same (sym (sent_far found.row.path (record { 0 = a }) next.peer (wire_fits plan (record { 0 = found.k }) found.row checked found.is).once next.joined terminal) ∙ far.0);
+}
   where
-    joins_them : (a b n f : ℕ) → (a == n && b == f) || (b == n && a == f) ≡ true → ((a == n && b == f) || (b == n && a == f)) || false ≡ true
-    joins_them a b n f is = grind (arith, nat_tests)
+    found : MeshWire plan network service a b
+    found = mesh_wire plan network service a b calm within also one other (apart_back b a apart)
+
+    of_mesh : is_mesh_of service found.row ≡ true
+    of_mesh = first_holds (is_mesh_of service found.row) _ found.between
+
+    link : IsLink plan found.row
+    link = link_at plan found.k found.row checked found.is
+
+    sides : AreSides link.near.0 link.far.0 a b
+    sides = both_ends a b link.near.0 link.far.0 (rw (link.path, link.last a, link.last b) at (second_holds (is_mesh_of service found.row) _ found.between))
+
+    far : (far_of a found.row.path ≡ Some b) × (far_of b found.row.path ≡ Some a)
+    far = by sides where
+      by : AreSides link.near.0 link.far.0 a b → (far_of a found.row.path ≡ Some b) × (far_of b found.row.path ≡ Some a)
+      by (IsNear here there) = (
+        ap (λ (n : ℕ). far_of n found.row.path) here ∙ (far_of_near plan found.row link ∙ ap Some (sym there)),
+        ap (λ (n : ℕ). far_of n found.row.path) there ∙ (far_of_far plan found.row link ∙ ap Some (sym here)),
+      )
+      by (IsFar here there) = (
+        ap (λ (n : ℕ). far_of n found.row.path) here ∙ (far_of_far plan found.row link ∙ ap Some (sym there)),
+        ap (λ (n : ℕ). far_of n found.row.path) there ∙ (far_of_near plan found.row link ∙ ap Some (sym here)),
+      )
+
+    terminal : is_first a found.row.path || is_last a found.row.path ≡ true
+    terminal = by (is_first a found.row.path) (is_last b found.row.path) (is_first b found.row.path) (is_last a found.row.path) (second_holds (is_mesh_of service found.row) _ found.between) where
+      by : (p q r s : Bool) → (p && q) || (r && s) ≡ true → p || s ≡ true
+      by true q r s is = refl
+      by false q true s is = is
+      by false q false s is = clash is
+
+    ends : wire_ends_at service a found.row ≡ true
+    ends = and_from (is_wire_of service found.row) (is_first a found.row.path || is_last a found.row.path) (first_holds (is_wire_of service found.row) (is_mesh_class found.row.class) of_mesh) terminal
+
+    next : HasNext found.row.path a
+    next = next_of plan service found.row a link ends

@@ -5,7 +5,7 @@ use Rattle.edge_model.specs.State.{put_at}
 use Rattle.edge_model.specs.Work.{Work}
 use Rattle.flight_laws.proofs.NameLemmas.{split}
 use Rattle.flight_laws.specs.Ends.{HasTypes}
-use Rattle.move_laws.specs.Moves.{has_short_paths}
+use Rattle.move_laws.specs.Moves.{has_short_spokes}
 use Rattle.ldp_grammar.specs.declared.message.Message.{Message}
 use Rattle.mac_table.specs.declared.mac_entry.MacEntry.{MacEntry}
 use Rattle.move_laws.proofs.ChoiceLemmas.{mends_tell}
@@ -76,8 +76,8 @@ module _ (plan : Plan) (service : ServiceId) (site : Sites) (network : NetworkSt
           (heals.right core is)
 
 pub mends_heal : (plan : Plan) (service : ServiceId) (site : Sites) (network : NetworkState) (me : EdgeId) (peer : ℕ) (messages : List Message) (work : Work) → IsChecked plan
-    → HasTypes plan → has_short_paths plan service ≡ true → HasWays plan service network me
+    → HasTypes plan → has_short_spokes plan service ≡ true → HasWays plan service network me
     → IsHealing plan service site network me peer messages work → IsHealing plan service site network me peer messages (mends plan taken_all work)
 mends_heal plan service site network me peer messages work checked types short ways heals =
     heals_on plan service site network me peer messages work (mends plan taken_all work)
-    (mends_stay plan service network me peer work checked types short heals.stays) (mends_tell plan service network me peer work checked types short ways heals.stays) heals
+    (mends_stay plan service network me peer work checked types heals.stays) (mends_tell plan service network me peer work checked types short ways heals.stays) heals

@@ -11,12 +11,12 @@ use Rattle.flight_laws.proofs.WorksLemmas.{changed_edge}
 use Rattle.flight_laws.specs.Ends.{HasTypes, IsOrdered}
 use Rattle.flight_laws.specs.Sound.{TellsSoundly, point_limit}
 use Rattle.flight_laws.proofs.PlaceLemmas.{same_row}
-use Rattle.move_laws.specs.Moves.{has_short_paths}
+use Rattle.move_laws.specs.Moves.{has_short_spokes}
 use Rattle.move_laws.proofs.ForgetLemmas.{changed_forgets}
 use Rattle.move_laws.proofs.LiveLemmas.{mends_live}
 use Rattle.move_laws.proofs.MendHealLemmas.{heals_on, mends_heal}
 use Rattle.move_laws.proofs.SettleHealLemmas.{begin_heals, joined_away, settle_heals}
-use Rattle.move_laws.proofs.SpeakLemmas.{changed_speaks, speaks_first}
+use Rattle.move_laws.proofs.SpeakLemmas.{changed_speaks, mesh_same, speaks_first}
 use Rattle.move_laws.proofs.StayLemmas.{speaks_on}
 use Rattle.move_laws.specs.Healing.{HasWays, Heals, IsHealing, KeepsMesh}
 use Rattle.move_laws.specs.Moves.{is_move}
@@ -28,7 +28,7 @@ use Rattle.net_base.specs.declared.plan.wire_plan.WirePlan.{WirePlan}
 use Rattle.net_base.specs.declared.trace.event.Event.TheVariants.{Priority, Status}
 use Rattle.net_base.specs.declared.trace.event.Event.{Event}
 use Rattle.net_base.specs.plan.Accepted.{IsChecked}
-use Rattle.net_base.specs.plan.Paths.{is_first, joins}
+use Rattle.net_base.specs.plan.Paths.{is_first, is_last}
 use Rattle.net_base.specs.plan.Places.{is_mesh_class, wire_row}
 use Rattle.net_base.specs.plan.Planned.{IsEventOf}
 use Rattle.net_base.specs.plan.Roles.{is_mesh_of, is_wire_of}
@@ -36,12 +36,12 @@ use Rattle.network_model.specs.Absorb.{absorb, answer, begin_at, idle, taken_all
 use Rattle.network_model.specs.State.{NetworkState}
 use Rattle.network_model.specs.Step.{step}
 use Rattle.network_model.specs.Wire.{priority_event, status_event}
-use Rattle.std.proofs.Common.{Bool, None, Option, Some, [], ap, cond, false, inl, nat_eq, not, refl, slice_get, sym, true, ℕ, ◌&&◌, ◌==◌, ◌∙◌, ◌≡◌, ◌≤◌}
+use Rattle.std.proofs.Common.{Bool, None, Option, Some, [], ap, cond, false, inl, nat_eq, not, refl, slice_get, sym, true, ℕ, ◌&&◌, ◌==◌, ◌||◌, ◌∙◌, ◌≡◌, ◌≤◌}
 use Rattle.std.proofs.lemmas.Bool.{eqb-true}
 use Rattle.net_values.proofs.BoolLemmas.{clash, second_holds}
 use Rattle.net_values.proofs.NumberLemmas.{same_number}
 
-module _ (plan : Plan) (service : ServiceId) (site : Sites) (calm network : NetworkState) (me : EdgeId) (checked : IsChecked plan) (types : HasTypes plan) (short : has_short_paths plan service ≡ true) (ordered : IsOrdered plan network)
+module _ (plan : Plan) (service : ServiceId) (site : Sites) (calm network : NetworkState) (me : EdgeId) (checked : IsChecked plan) (types : HasTypes plan) (short : has_short_spokes plan service ≡ true) (ordered : IsOrdered plan network)
     (heals : Heals plan service site calm network) where
   abbrev Begun : Work
   Begun = begin_at network me
@@ -60,7 +60,7 @@ module _ (plan : Plan) (service : ServiceId) (site : Sites) (calm network : Netw
   changed_heals change peering same chosen learned sound mesh =
       settle_heals plan service site calm network network me me.0 [] (mends plan taken_all (changes change Begun)) checked (record { edges = refl; pipes = λ a b other. refl }) heals
       (mends_heal plan service site network me me.0 [] (changes change Begun) checked types short ways changed)
-      (mends_live plan service me (changes change Begun) checked short changed.stays.place)
+      (mends_live plan service me (changes change Begun) checked changed.stays.place)
       (λ joined stood. clash (sym (joined_away plan service me.0 me.0 checked joined) ∙ same_number me.0))
     where
       chosen_is : (changes change Begun).edge.chosen ≡ Begun.edge.chosen
@@ -79,7 +79,7 @@ module _ (plan : Plan) (service : ServiceId) (site : Sites) (calm network : Netw
       × (TellsSoundly (point_limit plan me.0) edge → TellsSoundly (point_limit plan me.0) (with_priority wire priority edge))
       × (KeepsMesh plan service me.0 edge → KeepsMesh plan service me.0 (with_priority wire priority edge))
   unfolding with_priority
-  priority_rest wire priority edge = (refl, refl, refl, refl, λ sound. sound_same edge _ refl refl refl refl refl sound, λ mesh. record { told = mesh.told; on = mesh.on; whole = mesh.whole })
+  priority_rest wire priority edge = (refl, refl, refl, refl, λ sound. sound_same edge _ refl refl refl refl refl sound, λ mesh. mesh_same plan service me.0 edge _ refl refl refl mesh)
 
   bits_rest : (wire : WireId) (bits : ℕ) (edge : EdgeState) → ((with_bits wire bits edge).peering ≡ edge.peering) × ((with_bits wire bits edge).me ≡ edge.me)
       × ((with_bits wire bits edge).chosen ≡ edge.chosen) × ((with_bits wire bits edge).learned ≡ edge.learned)
@@ -100,15 +100,16 @@ module _ (plan : Plan) (service : ServiceId) (site : Sites) (calm network : Netw
   bits_mesh wire bits row edge is class mesh = record {
     told = mesh.told;
     on = mesh.on;
-    whole = λ other its peer at of_mesh joined. by other its peer at of_mesh joined (nat_eq other.0 wire.0) refl;
+    whole = λ other its at of_mesh ended. by other its at of_mesh ended (nat_eq other.0 wire.0) refl;
+    across = mesh.across;
   }
     where
-      by : (other : WireId) (its : WirePlan) (peer : ℕ) → wire_row plan other ≡ Some its → is_mesh_of service its ≡ true → joins me.0 peer its.path ≡ true → (b : Bool)
+      by : (other : WireId) (its : WirePlan) → wire_row plan other ≡ Some its → is_mesh_of service its ≡ true → is_first me.0 its.path || is_last me.0 its.path ≡ true → (b : Bool)
           → nat_eq other.0 wire.0 ≡ b → cond b bits (edge.bits other.0) ≡ 0
-      by other its peer at of_mesh joined true same =
+      by other its at of_mesh ended true same =
           let rows : its ≡ row = same_row its row (sym at ∙ (ap (slice_get plan.wires) (eqb-true other.0 wire.0 same) ∙ is)) in
           clash (sym class ∙ (ap (λ (r : WirePlan). is_mesh_class r.class) (sym rows) ∙ second_holds (is_wire_of service its) (is_mesh_class its.class) of_mesh))
-      by other its peer at of_mesh joined false away = mesh.whole other its peer at of_mesh joined
+      by other its at of_mesh ended false away = mesh.whole other its at of_mesh ended
 
   -- an input that applies or not
   answered : (mended : Work) → Heals plan service site calm (absorb me 0 0 mended network).state → (b : Bool) → Heals plan service site calm (answer me 0 0 (cond b mended (idles Begun)) network).state
@@ -139,7 +140,7 @@ spoke_class true true b is = clash is
 spoke_class true false b is = refl
 spoke_class false mesh b is = clash is
 
-pub move_heals : (plan : Plan) (service : ServiceId) (site : Sites) (calm network : NetworkState) (event : Event) → IsChecked plan → HasTypes plan → has_short_paths plan service ≡ true
+pub move_heals : (plan : Plan) (service : ServiceId) (site : Sites) (calm network : NetworkState) (event : Event) → IsChecked plan → HasTypes plan → has_short_spokes plan service ≡ true
     → IsEventOf plan event → IsOrdered plan network
     → Heals plan service site calm network → is_move plan service event ≡ true → Heals plan service site calm (step plan network event).state
 move_heals plan service site calm network (Priority me wire priority) checked types short planned ordered heals moves =

@@ -23,7 +23,7 @@ use Rattle.flight_laws.specs.Pair.{ArePaired, AreTalking}
 use Rattle.flight_laws.specs.Rules.{AllMessages}
 use Rattle.flight_laws.specs.Sound.{TellsSoundly, point_limit}
 use Rattle.flight_laws.proofs.CommonLemmas.{platform_is}
-use Rattle.move_laws.specs.Moves.{has_short_paths}
+use Rattle.move_laws.specs.Moves.{has_short_spokes}
 use Rattle.ldp_grammar.specs.declared.ldp_id.LdpId.{LdpId}
 use Rattle.ldp_grammar.specs.declared.message.Message.{Message}
 use Rattle.move_laws.proofs.ForgetLemmas.{forgets_none}
@@ -153,7 +153,7 @@ pub record HasHealed (plan : Plan) (service : ServiceId) (site : Sites) (network
   pub live : AllByRecursion (IsAtLive plan service me.0 work.edge) (work.edge.learned service.0)
   pub left : are_joined_by plan service peer.0 me.0 ≡ true → stands network peer.0 me.0 ≡ true → LeavesToHear plan service network me.0 peer.0 later (held_by (work.edge.peering peer.0) ++ more)
 
-module _ (plan : Plan) (service : ServiceId) (site : Sites) (calm network : NetworkState) (me peer : EdgeId) (count : ℕ) (checked : IsChecked plan) (types : HasTypes plan) (short : has_short_paths plan service ≡ true) (ordered : IsOrdered plan network)
+module _ (plan : Plan) (service : ServiceId) (site : Sites) (calm network : NetworkState) (me peer : EdgeId) (count : ℕ) (checked : IsChecked plan) (types : HasTypes plan) (short : has_short_spokes plan service ≡ true) (ordered : IsOrdered plan network)
     (heals : Heals plan service site calm network) (away : nat_eq peer.0 me.0 ≡ false) (there : stands network me.0 peer.0 ≡ true)
     (stand : (core : ℕ) → is_core_edge plan service core ≡ true → nat_eq core me.0 ≡ false → is_core_edge plan service me.0 ≡ true → MeshesTo plan service me.0 core) where
   abbrev pub pipe : List ℕ
@@ -260,7 +260,7 @@ module _ (plan : Plan) (service : ServiceId) (site : Sites) (calm network : Netw
       record {
         later = heard.later;
         heals = mends_heal plan service site network me peer.0 heard.later result checked types short ways healing;
-        live = mends_live plan service me result checked short healing.stays.place;
+        live = mends_live plan service me result checked healing.stays.place;
         left = λ joined stood. record {
           is = ap (λ (l : List ℕ). l ++ drop count pipe) (held_is joined) ∙ heard.behind;
           said = heard.said;

@@ -29,7 +29,7 @@ pub will_weaker : (plan : Plan) (service : ServiceId) (ways more : Ways) (edge :
     → WillBeRight plan service ways edge wire pw_id home core p → WillBeRight plan service more edge wire pw_id home core p
 will_weaker plan service ways more edge wire pw_id home core p grows (IsRight is) = IsRight is
 will_weaker plan service ways more edge wire pw_id home core p grows (BySpoke way) = BySpoke (grows edge home pw_id way)
-will_weaker plan service ways more edge wire pw_id home core p grows (ByMesh mesh row is of joined way) = ByMesh mesh row is of joined (grows home core row.pw_id way)
+will_weaker plan service ways more edge wire pw_id home core p grows (ByMesh mesh row a b is of far joined to way) = ByMesh mesh row a b is of far joined to (grows a.0 b.0 row.pw_id way)
 
 -- An entry heals where its choice is an older one, or the withdrawal of the new one is on its way.
 pub entry_heals_on : (plan : Plan) (service : ServiceId) (site : Sites) (old new : ℕ → Option WireId) (ways more : Ways) (core : ℕ) (entry : MacEntry) → ((a b n : ℕ) → ways a b n → more a b n)

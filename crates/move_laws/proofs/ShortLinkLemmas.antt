@@ -1,7 +1,6 @@
--- Wires with paths of two edges: each is its two terminal edges, and each of them is the far one of the other.
-use Rattle.std.proofs.Common.{◌≡◌, ◌<◌, ◌&&◌, ◌||◌, ◌==◌, ◌∙◌, inl, inr, slice_get, ℕ, zero, suc, Bool, true, false, List, [], ◌∷◌, Some, length, nat_eq, not, refl, sym, ap, arith}
-use Rattle.std.proofs.lemmas.Bool.{cases_Bool, eqb-true}
-use Rattle.std.proofs.lemmas.Bool.Decides.{nat_tests}
+-- Spokes with paths of two edges: each is its two terminal edges.
+use Rattle.std.proofs.Common.{◌≡◌, ◌<◌, ◌&&◌, ◌||◌, ◌∙◌, slice_get, ℕ, zero, suc, Bool, true, false, List, [], ◌∷◌, Some, length, nat_eq, not, sym, ap, arith}
+use Rattle.std.proofs.lemmas.Bool.{eqb-true}
 use Rattle.std.specs.List.{list_all}
 use Rattle.net_values.proofs.BoolLemmas.{first_holds, second_holds}
 use Rattle.net_base.specs.declared.plan.Plan.{Plan}
@@ -10,11 +9,10 @@ use Rattle.net_base.specs.declared.plan.places.ServiceId.{ServiceId}
 use Rattle.net_base.specs.declared.plan.places.WireId.{WireId}
 use Rattle.net_base.specs.declared.plan.wire_plan.WirePlan.{WirePlan}
 use Rattle.net_base.specs.plan.Accepted.{IsChecked}
-use Rattle.net_base.specs.plan.Paths.{joins, last_edge}
-use Rattle.net_base.specs.plan.Places.{wire_row}
+use Rattle.net_base.specs.plan.Paths.{last_edge}
+use Rattle.net_base.specs.plan.Places.{is_mesh_class, wire_row}
 use Rattle.net_base.specs.plan.Roles.{is_wire_of}
-use Rattle.network_model.specs.Reach.{far_of}
-use Rattle.move_laws.specs.Moves.{has_short_paths}
+use Rattle.move_laws.specs.Moves.{has_short_spokes}
 use Rattle.flood_laws.proofs.LinkLemmas.{IsLink, link_at}
 
 -- a test of each item of a list holds of one
@@ -25,10 +23,11 @@ all_hold test (y ∷ ys) zero x all is =
     ap test (sym same) ∙ first_holds (test y) (list_all test ys) all
 all_hold test (y ∷ ys) (suc i) x all is = all_hold test ys i x (second_holds (test y) (list_all test ys) all) is
 
--- the path of a wire of the service has two edges
-pub has_two : (plan : Plan) (service : ServiceId) (wire : WireId) (row : WirePlan) → has_short_paths plan service ≡ true → is_wire_of service row ≡ true → wire_row plan wire ≡ Some row
-    → nat_eq (length row.path) 2 ≡ true
-has_two plan service wire row short ours is = rw ours at (all_hold (λ (r : WirePlan). not (is_wire_of service r) || nat_eq (length r.path) 2) plan.wires wire.0 row short is)
+-- the path of a spoke of the service has two edges
+has_two : (plan : Plan) (service : ServiceId) (wire : WireId) (row : WirePlan) → has_short_spokes plan service ≡ true → is_wire_of service row ≡ true → is_mesh_class row.class ≡ false
+    → wire_row plan wire ≡ Some row → nat_eq (length row.path) 2 ≡ true
+has_two plan service wire row short ours class is =
+    rw (ours, class) at (all_hold (λ (r : WirePlan). not (is_wire_of service r && not (is_mesh_class r.class)) || nat_eq (length r.path) 2) plan.wires wire.0 row short is)
 
 -- the path of a wire is its two terminal edges
 pub record IsShortLink (plan : Plan) (row : WirePlan) : Type 0 where
@@ -39,24 +38,10 @@ pub record IsShortLink (plan : Plan) (row : WirePlan) : Type 0 where
   pub near_within : near.0 < length plan.edges
   pub far_within : far.0 < length plan.edges
 
--- which is a path between terminal edges
-abbrev pub whole : (plan : Plan) (row : WirePlan) → IsShortLink plan row → IsLink plan row
-whole plan row link = record {
-  near = link.near;
-  rest = link.far ∷ [];
-  far = link.far;
-  path = link.path;
-  last = λ e. refl;
-  ends = refl;
-  apart = link.apart;
-  near_within = link.near_within;
-  far_within = link.far_within;
-}
-
--- so it is with each wire of a service with short paths
-pub short_link : (plan : Plan) (service : ServiceId) (k : ℕ) (row : WirePlan) → IsChecked plan → has_short_paths plan service ≡ true → is_wire_of service row ≡ true
-    → slice_get plan.wires k ≡ Some row → IsShortLink plan row
-short_link plan service k row checked short ours is = by link.rest link.path link.ends (ap (λ (path : List EdgeId). nat_eq (length path) 2) (sym link.path) ∙ has_two plan service (record { 0 = k }) row short ours is) where
+-- so it is with each spoke of a service with short spokes
+pub short_link : (plan : Plan) (service : ServiceId) (k : ℕ) (row : WirePlan) → IsChecked plan → has_short_spokes plan service ≡ true → is_wire_of service row ≡ true
+    → is_mesh_class row.class ≡ false → slice_get plan.wires k ≡ Some row → IsShortLink plan row
+short_link plan service k row checked short ours class is = by link.rest link.path link.ends (ap (λ (path : List EdgeId). nat_eq (length path) 2) (sym link.path) ∙ has_two plan service (record { 0 = k }) row short ours class is) where
   link : IsLink plan row
   link = link_at plan k row checked is
 
@@ -73,19 +58,3 @@ short_link plan service k row checked short ours is = by link.rest link.path lin
         far_within = link.far_within;
       }
   by (next ∷ after ∷ rest) path ends two = absurd (omega (arith, eqb-true (length (link.near ∷ next ∷ after ∷ rest)) 2 two))
-
-peer_last : (me peer first last : ℕ) → (me == first) ≡ true → ((me == first && peer == last) || (peer == first && me == last)) || false ≡ true → last ≡ peer
-peer_last me peer first last here joined = grind (arith, nat_tests)
-
-peer_first : (me peer first last : ℕ) → (me == first) ≡ false → ((me == first && peer == last) || (peer == first && me == last)) || false ≡ true → first ≡ peer
-peer_first me peer first last away joined = grind (arith, nat_tests)
-
--- of two edges that a path of two edges joins, each is the far one of the other
-pub far_is : (path : List EdgeId) (me peer : ℕ) → nat_eq (length path) 2 ≡ true → joins me peer path ≡ true → far_of me path ≡ Some peer
-far_is [] me peer two joined = absurd (cc (two))
-far_is (last ∷ []) me peer two joined = absurd (cc (two))
-far_is (first ∷ next ∷ more ∷ rest) me peer two joined = absurd (omega (arith, eqb-true (length (first ∷ next ∷ more ∷ rest)) 2 two))
-far_is (first ∷ last ∷ []) me peer two joined = elim (cases_Bool (nat_eq me first.0)) [
-  | inl here ↦ rw here (ap Some (peer_last me peer first.0 last.0 here joined))
-  | inr away ↦ rw away (ap Some (peer_first me peer first.0 last.0 away joined))
-]

@@ -20,7 +20,7 @@ use Rattle.flight_laws.specs.Messages.{octets_of_all}
 use Rattle.flight_laws.specs.Sound.{TellsSoundly, point_limit}
 use Rattle.ldp_grammar.specs.declared.message.Message.{Message}
 use Rattle.move_laws.specs.Clearing.{IsMild}
-use Rattle.move_laws.specs.Healing.{KeepsMesh, SaysMore, SpeaksMildly, Stays, is_advertising}
+use Rattle.move_laws.specs.Healing.{KeepsMesh, SaysMore, SpeaksMildly, StandsFor, Stays, is_advertising}
 use Rattle.net_base.specs.declared.plan.Plan.{Plan}
 use Rattle.net_base.specs.declared.plan.places.EdgeId.{EdgeId}
 use Rattle.net_base.specs.declared.plan.places.ServiceId.{ServiceId}
@@ -47,7 +47,9 @@ pub mesh_same : (plan : Plan) (service : ServiceId) (me : ℕ) (old new : EdgeSt
 mesh_same plan service me old new ends on bits mesh = record {
   told = λ wire row peer is of joined. ap (λ (f : ℕ → ℕ → EndState). is_advertising (f wire.0 peer).local) ends ∙ mesh.told wire row peer is of joined;
   on = λ wire row peer is of joined. ap (λ (f : ℕ → Bool). f wire.0) on ∙ mesh.on wire row peer is of joined;
-  whole = λ wire row peer is of joined. ap (λ (f : ℕ → ℕ). f wire.0) bits ∙ mesh.whole wire row peer is of joined;
+  whole = λ wire row is of ended. ap (λ (f : ℕ → ℕ). f wire.0) bits ∙ mesh.whole wire row is of ended;
+  across = λ wire row from to label content is of mated at. subst (λ (f : ℕ → ℕ → EndState). StandsFor plan row (record { 0 = me }) from content (f wire.0 from.0).remote) (sym ends)
+      (mesh.across wire row from to label content is of mated (ap (λ (f : ℕ → ℕ → EndState). (f wire.0 to.0).local) (sym ends) ∙ at));
 }
 
 module _ (plan : Plan) (service : ServiceId) (network : NetworkState) (me : EdgeId) (peer : ℕ) where

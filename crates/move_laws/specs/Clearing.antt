@@ -10,7 +10,7 @@ use Rattle.net_base.specs.plan.Places.{wire_row}
 use Rattle.net_base.specs.plan.Roles.{is_mesh_of}
 use Rattle.pw_tlvs.specs.declared.pw_fec.PwFec.{PwFec}
 use Rattle.ldp_grammar.specs.declared.message.Message.{Message}
-use Rattle.ldp_grammar.specs.declared.message.Message.TheVariants.{AddressWithdraw, LabelWithdraw, LabelRelease}
+use Rattle.ldp_grammar.specs.declared.message.Message.TheVariants.{AddressWithdraw, LabelMapping, LabelWithdraw, LabelRelease}
 use Rattle.session_core.specs.Reasons.{is_fatal}
 use Rattle.flight_laws.specs.Bound.{some_message}
 use Rattle.flight_laws.specs.Ends.{ends_at}
@@ -40,16 +40,22 @@ abbrev pub clears : ℕ → Message → Bool
 clears pw_id (AddressWithdraw id addresses fec macs) = names_by_fec pw_id fec && means_all macs
 clears pw_id message = false
 
--- it is no Label Withdraw and no Label Release of the wire with this PW ID
-abbrev pub leaves_label : ℕ → Message → Bool
-leaves_label pw_id (LabelWithdraw id fec label) = not (names_wire pw_id fec.pw_id)
-leaves_label pw_id (LabelRelease id fec label) = not (names_wire pw_id fec.pw_id)
-leaves_label pw_id message = true
+-- the wire with this PW ID is named, or a group of wires (RFC 8077 section 6.5)
+abbrev pub names_wire_or_group : ℕ → Option ℕ → Bool
+names_wire_or_group pw_id None = true
+names_wire_or_group pw_id (Some other) = other == pw_id
 
--- a message between two edges ends no session, and leaves the labels of the service's mesh wires between the two
+-- it is no Label Mapping and no Label Release of the wire with this PW ID, and no Label Withdraw of it or of a group
+abbrev pub leaves_wire : ℕ → Message → Bool
+leaves_wire pw_id (LabelMapping id fec label status points) = not (names_wire pw_id fec.pw_id)
+leaves_wire pw_id (LabelWithdraw id fec label) = not (names_wire_or_group pw_id fec.pw_id)
+leaves_wire pw_id (LabelRelease id fec label) = not (names_wire pw_id fec.pw_id)
+leaves_wire pw_id message = true
+
+-- a message between two edges ends no session, and leaves the labels and bindings of the service's mesh wires between the two
 pub record IsMild (plan : Plan) (service : ServiceId) (a b : ℕ) (message : Message) : Type 0 where
   pub plain : is_fatal message ≡ false
-  pub labels : (wire : WireId) (row : WirePlan) → wire_row plan wire ≡ Some row → is_mesh_of service row ≡ true → joins a b row.path ≡ true → leaves_label row.pw_id message ≡ true
+  pub labels : (wire : WireId) (row : WirePlan) → wire_row plan wire ≡ Some row → is_mesh_of service row ≡ true → joins a b row.path ≡ true → leaves_wire row.pw_id message ≡ true
 
 -- ---- octets on their way from one edge to another one
 

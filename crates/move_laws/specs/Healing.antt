@@ -1,13 +1,13 @@
 -- What holds of a network between a move to another spoke and the next calm state: each learned address points the right way, or what
 -- clears it is on its way.
-use Rattle.std.specs.Prelude.{◌≡◌, ◌++◌, ◌==◌, ◌&&◌, ◌<◌, ◌^◌, ◌⊎◌, ℕ, Bool, true, false, List, Option, Some, None, filter, slice_get}
+use Rattle.std.specs.Prelude.{◌≡◌, ◌++◌, ◌==◌, ◌&&◌, ◌||◌, ◌<◌, ◌^◌, ◌⊎◌, ℕ, Bool, true, false, List, Option, Some, None, filter, slice_get}
 use Rattle.std.specs.List.{AllByRecursion}
 use Rattle.net_base.specs.declared.plan.Plan.{Plan}
 use Rattle.net_base.specs.declared.plan.places.EdgeId.{EdgeId}
 use Rattle.net_base.specs.declared.plan.places.ServiceId.{ServiceId}
 use Rattle.net_base.specs.declared.plan.places.WireId.{WireId}
 use Rattle.net_base.specs.declared.plan.wire_plan.WirePlan.{WirePlan}
-use Rattle.net_base.specs.plan.Paths.{is_last, joins}
+use Rattle.net_base.specs.plan.Paths.{edge_address, is_first, is_last, joins, mate}
 use Rattle.net_base.specs.plan.Places.{wire_row}
 use Rattle.net_base.specs.plan.Roles.{are_joined_by, is_core_edge, is_mesh_of, is_spoke_from}
 use Rattle.ldp_grammar.specs.declared.message.Message.{Message}
@@ -15,13 +15,18 @@ use Rattle.hvpls_spokes.specs.declared.port.Port.{Port}
 use Rattle.hvpls_spokes.specs.declared.port.Port.TheVariants as port
 use Rattle.hvpls_spokes.specs.Port.{ports_of}
 use Rattle.mac_table.specs.declared.mac_entry.MacEntry.{MacEntry}
+use Rattle.pw_signalling.specs.declared.binding.Binding.{Binding}
+use Rattle.pw_signalling.specs.declared.told.Told.{Told}
+use Rattle.pw_stitch.specs.Change.{is_same_but_status}
+use Rattle.pw_stitch.specs.Passing.{own_point, past_point}
 use Rattle.pw_signalling.specs.End.{LocalPart, Idle, Advertised, Withdrawing}
 use Rattle.session_core.specs.Phase as phase
 use Rattle.edge_model.specs.Ends.{end_forwards}
 use Rattle.edge_model.specs.Mend.{is_up_with}
 use Rattle.edge_model.specs.State.{EdgeState, Peering, put_at}
 use Rattle.edge_model.specs.Work.{Work}
-use Rattle.network_model.specs.Reach.{at_edge_of}
+use Rattle.network_model.specs.Goal.{goal}
+use Rattle.network_model.specs.Reach.{at_edge_of, far_of}
 use Rattle.network_model.specs.State.{NetworkState, held, stands}
 use Rattle.flight_laws.specs.Bound.{some_message}
 use Rattle.flight_laws.specs.Ends.{ends_at}
@@ -36,18 +41,18 @@ use Rattle.move_laws.specs.Clearing.{IsCleared, IsMild, IsMildWay, clears}
 
 -- ---- the right way
 
--- a wire between two edges
-pub record IsWireBetween (plan : Plan) (a b : ℕ) (wire : WireId) : Type 0 where
+-- a wire that leads from one of its terminal edges to the other one
+pub record IsWireTo (plan : Plan) (a b : ℕ) (wire : WireId) : Type 0 where
   pub row : WirePlan
   pub is : wire_row plan wire ≡ Some row
-  pub joined : joins a b row.path ≡ true
+  pub far : far_of a row.path ≡ Some b
 
--- the port of a core edge is right for what is behind this spoke to its home: it is the spoke, at home, or a mesh wire to the home.
+-- the port of a core edge is right for what is behind this spoke to its home: it is the spoke, at home, or the mesh wire to the home.
 -- Of a circuit nothing is said
 abbrev pub LeadsHome : Plan → (core home : ℕ) → WireId → Option Port → Type 0
 LeadsHome plan core home wire None = ⊥
 LeadsHome plan core home wire (Some (port.Circuit at)) = Unit {0}
-LeadsHome plan core home wire (Some (port.Mesh mesh)) = IsWireBetween plan core home mesh
+LeadsHome plan core home wire (Some (port.Mesh mesh)) = IsWireTo plan core home mesh
 LeadsHome plan core home wire (Some (port.Spoke spoke)) = (core ≡ home) × (spoke ≡ wire)
 
 -- a spoke of the service from its spoke edge to this core edge
@@ -63,13 +68,13 @@ pub record IsSpokeTo (plan : Plan) (service : ServiceId) (edge : ℕ) (wire : Wi
 abbrev pub Ways : Type 1
 Ways = (from to pw_id : ℕ) → Type 0
 
--- the port of a core edge is right for what is behind this spoke, or the withdrawal is on its way on the spoke, or on the mesh wire
--- from the home
+-- the port of a core edge is right for what is behind this spoke, or the withdrawal is on its way on the spoke, or on some segment of the
+-- mesh wire from the home, towards the edge
 pub data WillBeRight (plan : Plan) (service : ServiceId) (ways : Ways) (edge : ℕ) (wire : WireId) (pw_id home core : ℕ) (p : ℕ) : Type 0 where
   IsRight : LeadsHome plan core home wire (slice_get (ports_of plan service (record { 0 = core })) p) → WillBeRight plan service ways edge wire pw_id home core p
   BySpoke : ways edge home pw_id → WillBeRight plan service ways edge wire pw_id home core p
-  ByMesh : (mesh : WireId) (row : WirePlan) → wire_row plan mesh ≡ Some row → is_mesh_of service row ≡ true → joins home core row.path ≡ true → ways home core row.pw_id
-      → WillBeRight plan service ways edge wire pw_id home core p
+  ByMesh : (mesh : WireId) (row : WirePlan) (a b : EdgeId) → wire_row plan mesh ≡ Some row → is_mesh_of service row ≡ true → far_of core row.path ≡ Some home
+      → joins a.0 b.0 row.path ≡ true → (goal row.path a b).0 ≡ core → ways a.0 b.0 row.pw_id → WillBeRight plan service ways edge wire pw_id home core p
 
 -- so it is with an entry of a core edge, whichever spoke the edge of its site has chosen
 abbrev pub EntryHeals : Plan → ServiceId → Sites → (ℕ → Option WireId) → Ways → ℕ → MacEntry → Type 0
@@ -99,11 +104,20 @@ is_advertising (Idle declined) = false
 is_advertising (Advertised label told) = true
 is_advertising (Withdrawing label) = false
 
--- the edge's ends of the service's mesh wires advertise their labels, are on, and have no failure bits
+-- what an end of a switching point has told is what the edge holds on the other side, but for the status (RFC 6073 section 7)
+pub record StandsFor (plan : Plan) (row : WirePlan) (me from : EdgeId) (content : Told) (held : Option Binding) : Type 0 where
+  pub binding : Binding
+  pub is : held ≡ Some binding
+  pub same : is_same_but_status content (past_point (own_point row.pw_id (edge_address plan me) (edge_address plan from)) binding.told) ≡ true
+
+-- The edge's ends of the service's mesh wires advertise their labels and are on. Where a wire ends it has no failure bits, and where it
+-- goes on what is told is what is held.
 pub record KeepsMesh (plan : Plan) (service : ServiceId) (me : ℕ) (edge : EdgeState) : Type 0 where
   pub told : (wire : WireId) (row : WirePlan) (peer : ℕ) → wire_row plan wire ≡ Some row → is_mesh_of service row ≡ true → joins me peer row.path ≡ true → is_advertising (edge.ends wire.0 peer).local ≡ true
   pub on : (wire : WireId) (row : WirePlan) (peer : ℕ) → wire_row plan wire ≡ Some row → is_mesh_of service row ≡ true → joins me peer row.path ≡ true → edge.wire_on wire.0 ≡ true
-  pub whole : (wire : WireId) (row : WirePlan) (peer : ℕ) → wire_row plan wire ≡ Some row → is_mesh_of service row ≡ true → joins me peer row.path ≡ true → edge.bits wire.0 ≡ 0
+  pub whole : (wire : WireId) (row : WirePlan) → wire_row plan wire ≡ Some row → is_mesh_of service row ≡ true → is_first me row.path || is_last me row.path ≡ true → edge.bits wire.0 ≡ 0
+  pub across : (wire : WireId) (row : WirePlan) (from to : EdgeId) (label : ℕ) (content : Told) → wire_row plan wire ≡ Some row → is_mesh_of service row ≡ true → mate row me from.0 ≡ Some to
+      → (edge.ends wire.0 to.0).local ≡ Advertised label content → StandsFor plan row (record { 0 = me }) from content (edge.ends wire.0 from.0).remote
 
 -- an entry at a spoke is at one that forwards here
 abbrev pub IsAtLive : Plan → ServiceId → ℕ → EdgeState → MacEntry → Type 0
