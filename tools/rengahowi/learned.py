@@ -27,6 +27,13 @@ class Learned:
         for wire in plan.wires.values():
             self.ending[wire.path[0], wire.path[1], wire.pw_id] = self.ending[wire.path[-1], wire.path[-2], wire.pw_id] = wire
 
+    def copy(self) -> Learned:
+        """The same, to which other things may happen."""
+        made = Learned.__new__(Learned)
+        made.plan, made.ticks, made.ending = self.plan, self.ticks, self.ending
+        made.bridges = {service: {edge: bridge.copy() for edge, bridge in bridges.items()} for service, bridges in self.bridges.items()}
+        return made
+
     def is_known(self, service: str, address: str) -> bool:
         """Whether a bridge of the service has learned an address."""
         age = self.plan.services[service]["age"]

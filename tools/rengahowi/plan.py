@@ -78,6 +78,17 @@ class Plan:
                 offer["mtu"] = self.services[keys["service"]]["mtu"]
         return Wire(keys, near, far)
 
+    def part(self, service: str) -> Plan:
+        """The plan of one service alone, with the edges that have something of it."""
+        made = Plan.__new__(Plan)
+        made.version, made.groups, made.events = self.version, self.groups, self.events
+        made.services = {service: self.services[service]}
+        made.circuits = {name: row for name, row in self.circuits.items() if row["service"] == service}
+        made.wires = {wire.name: wire for wire in self.wires_of(service)}
+        own = {edge for wire in made.wires.values() for edge in wire.path} | {row["edge"] for row in made.circuits.values()}
+        made.edges = {name: row for name, row in self.edges.items() if name in own}
+        return made
+
     def wires_of(self, service: str) -> list[Any]:
         """The wires of a service."""
         return [wire for wire in self.wires.values() if wire.service == service]
@@ -98,10 +109,11 @@ class Plan:
 
     def pairs(self, service: str | None = None) -> list[Any]:
         """The pairs of edges that a segment of a wire joins, of one service or of all, each once, in the plan's order."""
-        found, places = {}, {name: place for place, name in enumerate(self.edges)}
+        found: dict[tuple[str, str], None] = {}
+        places = {name: place for place, name in enumerate(self.edges)}
         for wire in self.wires.values():
             for a, b in wire.segments() if service in (None, wire.service) else ():
-                found[tuple(sorted((a, b), key=places.get))] = None
+                found[(a, b) if places[a] < places[b] else (b, a)] = None
         return list(found)
 
 

@@ -12,6 +12,7 @@ import json
 import sys
 
 from .browser import opened, waited_for
+from .overlaps import MEETING
 
 TYPE_CHECKING = False
 if TYPE_CHECKING:
@@ -53,6 +54,25 @@ def changes(browser: Any, what: str) -> list[int]:
     return found[:-1]
 
 
+def rounds(browser: Any) -> dict[str, list[int]]:
+    """Where the keys for rounds lead, from the first event on and from the last one back."""
+    script = KEY.replace("document.dispatchEvent", "document.body.dispatchEvent")
+    found = {}
+    for key, start in (("r", "Home"), ("R", "End")):
+        first = browser.execute_script(script, start)
+        found[key] = [*([first] if key == "R" else []), *(browser.execute_script(script, key) for _ in range(4 if key == "R" else 5))]
+    return found
+
+
+def meeting(browser: Any, events: list[int]) -> list[Any]:
+    """The texts of the picture that meet behind these events."""
+    found = []
+    for event in events:
+        browser.execute_script("go(arguments[0])", event)
+        found += browser.execute_script(MEETING)
+    return found
+
+
 def moved_together(browser: Any, events: list[int]) -> list[list[str]]:
     """What both pages of a pair show once the first one was moved to each of these events."""
     frames = browser.find_elements("css selector", "iframe")
@@ -85,6 +105,8 @@ def main() -> None:
         waited_for(lambda: browser.execute_script(OPEN))
         found: dict[str, Any] = {"states": [browser.execute_script(STATE, event) for event in events], "keys": keys(browser)}
         found["chosen"] = {what: browser.execute_script(CHOOSE, what) for what in chosen}
+        found["rounds"], found["meet"] = rounds(browser), meeting(browser, events)
+        found["marks"] = browser.execute_script("return marks.map(([at, , text]) => [numberOf(at), text])")
         found["changes"] = {what: changes(browser, what) for what in chosen}
         browser.get("about:blank")
         browser.get(f"file://{page}#event={events[0]}")

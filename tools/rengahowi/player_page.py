@@ -2,17 +2,12 @@
 
 from __future__ import annotations
 
-import base64
-import gzip
-import json
-import pathlib
-
 from .colours import of_service
-from .embedding import as_script, as_text
+from .embedding import HERE, as_script, as_text, packed, with_scripts
 from .frames import follow
+from .layout import Layout
 from .network import UNTOLD, network_of
 from .program import decoded, with_note
-from .standing import ROOM, standing
 from .steps import steps_of
 from .summing import sum_up
 
@@ -20,66 +15,85 @@ TYPE_CHECKING = False
 if TYPE_CHECKING:
     from typing import Any
 
+    from .layout import Box
     from .plan import Plan
     from .report import Report
 
-FOLDER = pathlib.Path(__file__).resolve().parent
 SAID = ("said ", "hello ")
+SCRIPTS = ("unpacked.js", "player_map.js", "player_state.js", "player_course.js", "player_beside.js", "player.js")
 
 
-def plan_rows(plan: Plan, report: Report) -> dict[str, Any]:
-    """What does not change: edges, circuits and wires, and where they stand; and of the frames those that some site got twice or never."""
-    places = standing(plan)
-    point = {key: {"x": round(x), "y": round(y)} for key, (x, y) in places.items()}
+def plan_rows(plan: Plan) -> dict[str, Any]:
+    """What no event changes: edges, circuits and wires, and where they stand."""
+    layout = Layout(plan)
+    leads = {name: [[round(x), round(y)] for x, y in points] for name, points in layout.leads.items()}
     return {
-        "edges": [{"name": name, "address": row["address"], **point["edge", name]} for name, row in plan.edges.items()],
+        "edges": [{"name": name, "address": row["address"], **at(layout.edges[name])} for name, row in plan.edges.items()],
         "circuits": [
-            {"name": name, "edge": row["edge"], "service": row["service"], "tag": row["tag"], **point["circuit", name]}
+            {"name": name, "edge": row["edge"], "service": row["service"], "tag": row["tag"], **at(layout.circuits[name]), "lead": leads[name]}
             for name, row in plan.circuits.items()
         ],
         "wires": [
-            {"name": wire.name, "service": wire.service, "kind": wire.kind, "path": wire.path, "pw_id": wire.pw_id, "priority": wire.priority}
+            {
+                "name": wire.name,
+                "service": wire.service,
+                "kind": wire.kind,
+                "path": wire.path,
+                "lanes": layout.wires[wire.name],
+                "pw_id": wire.pw_id,
+                "priority": wire.priority,
+            }
             for wire in plan.wires.values()
         ],
         "services": {name: of_service(plan, name) for name in plan.services},
-        "pairs": plan.pairs(),
-        "told": network_of(plan, report.rows).sessions_by != UNTOLD,
-        "frames": marked_frames(plan, report),
-        "ending": report.ending,
-        "width": round(max(x for x, _ in places.values()) + ROOM),
-        "height": round(max(y for _, y in places.values()) + ROOM),
+        "pairs": [[a, b, lane] for (a, b), lane in layout.sessions.items()],
+        "width": round(layout.width),
+        "height": round(layout.height),
     }
 
 
-def marked_frames(plan: Plan, report: Report) -> dict[str, Any]:
-    """The frames that a site got twice, or that a flood left out, or that ended nowhere."""
+def at(box: Box) -> dict[str, int]:
+    """Where a box stands, and how wide it is."""
+    return {"x": round(box.x), "y": round(box.y), "wide": round(box.width)}
+
+
+def run_rows(plan: Plan, report: Report) -> dict[str, Any]:
+    """A run: its steps, its lines, the names of its messages, and what became of the frames that some site got twice or never."""
     rows = sum_up(plan, follow(plan, report))["frames"]
-    return {row["frame"]: {"event": row["event"], "twice": row["twice"], "missed": row["missed"]} for row in rows if row["twice"] or row["missed"] or row["nowhere"]}
+    return {
+        "steps": steps_of(plan, report).data(),
+        "report": "\n".join(report.lines),
+        "names": names_of(report.lines),
+        "frames": {row["frame"]: verdict(row["twice"], row["missed"], row["nowhere"]) for row in rows if row["twice"] or row["missed"] or row["nowhere"]},
+        "told": network_of(plan, report.rows).sessions_by != UNTOLD,
+        "ending": report.ending,
+    }
 
 
-def names_of(report: Report) -> list[str]:
+def verdict(twice: list[str], missed: list[str], is_nowhere: bool) -> dict[str, Any]:
+    """What became of a frame: the sites that got it twice, those that never did, and whether it ended nowhere."""
+    return {"twice": twice, "missed": missed, "nowhere": is_nowhere}
+
+
+def names_of(lines: list[str]) -> list[str]:
     """What `decode` tells of each message that is said; nothing where there is no program yet."""
-    said = [line.rpartition(" ")[2] for line in report.lines if line.startswith(SAID)]
-    lines = decoded(bytes.fromhex(octets) for octets in said)
-    return [] if lines is None else [" + ".join(names) for names in lines]
+    said = [line.rpartition(" ")[2] for line in lines if line.startswith(SAID)]
+    found = decoded(bytes.fromhex(octets) for octets in said)
+    return [] if found is None else [" + ".join(names) for names in found]
 
 
-def packed(plan: Plan, report: Report) -> str:
-    """The steps and the lines of the report, as base64 of gzip of JSON."""
-    found = {"steps": steps_of(plan, report).data(), "report": "\n".join(report.lines), "names": names_of(report)}
-    text = json.dumps(found, separators=(",", ":")).encode()
-    return base64.b64encode(gzip.compress(text, 6, mtime=0)).decode()
+def template() -> str:
+    """The page without its title, its plan and its run."""
+    return with_scripts(with_note((HERE / "player.html").read_text(encoding="utf-8")), *SCRIPTS)
 
 
 def page(title: str, plan: Plan, report: Report) -> str:
     """The page, which is XML too: no text in it begins a tag or an entity."""
-    text = as_script(plan_rows(plan, report))
-    made = with_note((FOLDER / "player.html").read_text(encoding="utf-8"))
-    made = made.replace("@SCRIPT@", (FOLDER / "player.js").read_text(encoding="utf-8"))
-    return made.replace("@TITLE@", as_text(title)).replace("@PLAN@", text).replace("@PACKED@", packed(plan, report))
+    made = template().replace("@TITLE@", as_text(title))
+    return made.replace("@PLAN@", as_script(plan_rows(plan))).replace("@PACKED@", packed(run_rows(plan, report)))
 
 
 def pair(titles: tuple[str, str], pages: tuple[str, str]) -> str:
     """The page of two runs side by side, which move together."""
-    made = (FOLDER / "player_pair.html").read_text(encoding="utf-8")
+    made = (HERE / "player_pair.html").read_text(encoding="utf-8")
     return made.replace("@TITLE@", as_text(" against ".join(titles))).replace("@PAGES@", as_script(pages))

@@ -7,6 +7,8 @@ What may change is a cell, which has a name of a few words, and its value is a t
 - `end E W`: what edge E says of its end of wire W
 - `told E W PEER` and `heard E W PEER`: the label that E advertises to its neighbour on the wire, with `!` while it is withdrawn, and the one
   that it has heard
+- `label E N`: what holds the number N of a label of E that is no longer advertised: `waits PEER` for a connection with that peer, `rests
+  TICK` since that tick, or `free`
 - `circuit C`: on or off
 - `octets A B`: how many octets of LDP are on their way from A to B
 - `packet N`: edge, edge, wire, wire of arrival and frame of a packet that is under way
@@ -25,6 +27,7 @@ from .report import ALWAYS
 
 TYPE_CHECKING = False
 if TYPE_CHECKING:
+    from collections.abc import Callable
     from typing import Any
 
     from .network import Network
@@ -46,54 +49,89 @@ class Steps:
         self.begins: list[int] = [0]
         self.changed: list[int] = []
         self.to: list[int] = []
-        self.now: dict[int, int] = {}
+        self.now: dict[str, str] = {}
+        self.before: dict[str, str] = {}  # of what was put since the last event
 
     def put(self, name: str, text: str) -> None:
         """A cell has this value from here on."""
-        cell = self.cells.setdefault(name, len(self.cells))
-        value = self.values.setdefault(text, len(self.values))
-        if self.now.get(cell, 0) != value:
-            self.now[cell] = value
-            self.changed.append(cell)
-            self.to.append(value)
+        now = self.now.get(name, "")
+        if now != text:
+            self.before.setdefault(name, now)
+            if text:
+                self.now[name] = text
+            else:
+                del self.now[name]
 
     def end_event(self) -> None:
         """The changes from here on are those of the next event."""
+        for name, before in self.before.items():
+            now = self.now.get(name, "")
+            if now != before:
+                self.changed.append(self.cells.setdefault(name, len(self.cells)))
+                self.to.append(self.values.setdefault(now, len(self.values)))
+        self.before.clear()
         self.begins.append(len(self.changed))
 
-    def data(self) -> dict[str, Any]:
-        """All of it, ready for JSON: how many changes each event has, and not where they begin."""
+    def behind(self) -> Steps:
+        """Steps of which what is so now is so before the first event."""
+        made = Steps()
+        made.cells, made.values, made.now = self.cells.copy(), self.values.copy(), self.now.copy()
+        for name, text in self.now.items():
+            made.changed.append(made.cells.setdefault(name, len(made.cells)))
+            made.to.append(made.values.setdefault(text, len(made.values)))
+        made.begins.append(len(made.changed))
+        return made
+
+    def data(self, known: Steps | None = None) -> dict[str, Any]:
+        """All of it, ready for JSON: how many changes each event has, and not where they begin. What others that began as these did have
+        already is left out."""
         counts = [after - before for before, after in zip(self.begins, self.begins[1:])]
-        return {"cells": list(self.cells), "values": list(self.values), "counts": counts, "changed": self.changed, "to": self.to}
+        cells, values, events, changes = (len(known.cells), len(known.values), len(known.begins) - 1, len(known.changed)) if known else (0, 0, 0, 0)
+        return {
+            "cells": list(self.cells)[cells:],
+            "values": list(self.values)[values:],
+            "counts": counts[events:],
+            "changed": self.changed[changes:],
+            "to": self.to[changes:],
+        }
 
 
 class Follower:
-    """Follows a report and writes down what each event changes."""
+    """Follows the lines of a report and writes down what each event changes."""
 
-    def __init__(self, plan: Plan, report: Report) -> None:
-        self.plan, self.report, self.steps = plan, report, Steps()
-        self.network: Network = network_of(plan, report.rows)
-        self.learned, self.labels = Learned(plan), Labels(plan, self.network, self.steps.put)
+    def __init__(self, plan: Plan, network: Network) -> None:
+        self.plan, self.network, self.steps = plan, network, Steps()
+        self.learned, self.labels = Learned(plan), Labels(plan, network, self.steps.put)
         # By a tick what may be forgotten then: the service, the edge, the address, and since when it was known.
         self.old: dict[int, list[tuple[str, str, str, int]]] = {}
         self.sources: dict[str, str] = {}  # of each frame
         # What a bridge hears by the event that is followed, unless that drops it: service, edge, address, port.
         self.hears: tuple[str, str, str, str] | None = None
         self.touched: set[tuple[str, str]] = set()  # ways of which octets were put or taken
-
-    def follow(self) -> Steps:
-        """Follows all lines."""
         self.put_all()
-        rows = [*self.report.rows, [""]]
-        for place, row in enumerate(rows[:-1]):
+
+    def behind(self) -> Follower:
+        """One that goes on where this one is, and begins with what is so now."""
+        made = Follower.__new__(Follower)
+        made.plan, made.network, made.steps = self.plan, self.network.copy(), self.steps.behind()
+        made.learned, made.labels = self.learned.copy(), self.labels.copy(made.network, made.steps.put)
+        made.old = {tick: rows.copy() for tick, rows in self.old.items()}
+        made.sources, made.hears, made.touched = self.sources.copy(), None, set()
+        return made
+
+    def follow(self, rows: list[list[str]], keeps: Callable[[int], bool] = lambda place: True) -> Steps:
+        """Follows all lines. What an event changes that is not kept is told with the next one that is."""
+        is_kept = True
+        for place, row in enumerate(rows):
             if row[0] == ">":
-                self.end_event()
-                is_told = rows[place + 1][0] == "idle" and row[1] not in ALWAYS
+                self.end_event(is_kept)
+                is_kept = keeps(place)
+                is_told = place + 1 < len(rows) and rows[place + 1][0] == "idle" and row[1] not in ALWAYS
                 if not self.network.is_idle(is_told, row[1], row[2:]):
                     self.begin(row[1], row[2:])
             else:
                 self.take(row)
-        self.end_event()
+        self.end_event(is_kept)
         return self.steps
 
     def put_all(self) -> None:
@@ -116,6 +154,8 @@ class Follower:
         if kind == "deliver":
             self.withdraw(words)
             self.labels.deliver(words[0], words[1], self.network.heard - heard)
+        elif kind == "connect":
+            self.labels.connect(words[0], words[1], self.learned.ticks)
         elif kind == "restart":
             self.restart(words[0])
         elif kind == "tick":
@@ -169,7 +209,7 @@ class Follower:
         elif kind == "adjacency":
             self.steps.put(f"adjacency {words[0]} {words[1]}", words[2])
 
-    def end_event(self) -> None:
+    def end_event(self, is_kept: bool) -> None:
         """What is so behind an event."""
         if self.hears is not None and len(self.hears[2]) == len("020000000001"):
             self.learn(*self.hears)
@@ -182,7 +222,8 @@ class Follower:
             self.put_calm()
         self.touched.clear()
         self.network.told.clear()
-        self.steps.end_event()
+        if is_kept:
+            self.steps.end_event()
 
     def put_calm(self) -> None:
         """Which services are calm."""
@@ -201,6 +242,7 @@ class Follower:
     def tick(self) -> None:
         """A tick: what has grown old is forgotten."""
         self.learned.ticks += 1
+        self.labels.tick(self.learned.ticks)
         self.steps.put("tick", str(self.learned.ticks))
         for service, edge, address, since in self.old.pop(self.learned.ticks, ()):
             bridge = self.learned.bridges[service].get(edge, {})
@@ -249,4 +291,4 @@ class Follower:
 
 def steps_of(plan: Plan, report: Report) -> Steps:
     """The steps of a report over its plan."""
-    return Follower(plan, report).follow()
+    return Follower(plan, network_of(plan, report.rows)).follow(report.rows)

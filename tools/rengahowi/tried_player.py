@@ -3,30 +3,43 @@
 from __future__ import annotations
 
 import json
-import pathlib
-import sys
 
 from .at_event import AtEvent
 from .plan import read_plan
 from .report import read_report
 from .steps import steps_of
-from .trying import TOP, compare, run, tool
+from .trying import TOP, compare, driver, tool
 
 TYPE_CHECKING = False
 if TYPE_CHECKING:
-    from collections.abc import Iterator
+    import pathlib
+    from collections.abc import Callable, Iterator
     from typing import Any
 
     from .steps import Steps
 
 EXAMPLES = TOP / "examples"
-# What is looked at behind which events, in the page: 20 of three runs; and of one of them what is chosen there.
-SHOWN = {"old-way": (38, 0, 3, 18, 22, 36, 40, 44, 48), "spoke-moves": (35, 8, 31, 38, 41, 45), "session-lost": (50, 20, 45, 55, 66)}
+# What is looked at behind which events, in the page: 22 of four runs; and of one of them what is chosen there.
+SHOWN = {
+    "old-way": (38, 0, 3, 18, 22, 36, 40, 44, 48),
+    "spoke-moves": (35, 8, 31, 38, 41, 45),
+    "session-lost": (50, 20, 45, 55, 66),
+    "served-twice": (33, 35),
+}
 CHOSEN = ("frame 3", "wire xa")
 # Counted in the report's own lines: the frame enters, is passed on, and is dropped; the spoke comes up from event 3 to 22, x moves away at 36,
 # and a hears of it at 40. The keys by the 48 events, of which 45 is the last frame.
 CHANGES = {"frame 3": [37, 38, 39], "wire xa": [3, 18, 19, 20, 21, 22, 36, 40]}
 KEYS = {"0 Home": 0, "1 ArrowRight": 1, "2 ArrowRight": 2, "3 ArrowLeft": 1, "4 PageDown": 2, "5 End": 48, "6 ArrowRight": 48, "7 PageUp": 45}
+# The rounds: each of five connections, then the first deliveries; the last one behind an arrival. And the marks, by the report's own lines.
+ROUNDS = {"r": [1, 2, 3, 4, 5], "R": [48, 47, 45, 44, 41]}
+MARKS = {
+    "old-way": [[28, "s is calm"], [36, "s leaves calm"], [39, "frame 3 leaves nowhere"], [44, "s is calm"]],
+    "served-twice": [[28, "s is calm"], [32, "s leaves calm"], [35, "frame 1 comes twice to cx"]],
+}
+# What became of a number of a label, in the report of label-comes-back: red tells it by event 4, and is withdrawn by 7 and released by 9; the
+# edges connect anew by 12, and 64 ticks are over by 79, when blue tells it.
+NUMBER = [(9, "waits b"), (12, "rests 0"), (79, "")]
 OF_TABLES = ("session", "end", "told", "heard", "mac")
 # Where `tables` holds no session, the page tells how the last one ended.
 ENDED, NONE = "Ended:", "NonExistent"
@@ -36,6 +49,7 @@ def players(folder: pathlib.Path, _gone: set[str]) -> Iterator[Any]:
     """The steps of whole runs, the page in a browser, and files that are none."""
     for name in ("old-way", "restart", "ageing", "mesh-over-chain", "label-comes-back"):
         yield from whole_run(name)
+    yield compare("player, a number that comes back", list(history("label-comes-back", "label a 1048575")), NUMBER)
     yield from in_browser(folder)
     yield from refused(folder)
 
@@ -83,21 +97,27 @@ def whole_run(name: str) -> Iterator[Any]:
     yield compare(f"player, {name} behind each event", wrong, [])
 
 
+def history(name: str, cell: str) -> Iterator[tuple[int, str]]:
+    """The values of a cell, each with the event that it is of."""
+    plan = read_plan(EXAMPLES / f"{name}.toml")
+    before = ""
+    for number, state in enumerate(states(steps_of(plan, read_report(EXAMPLES / f"{name}.txt", plan)))):
+        if state.get(cell, "") != before:
+            before = state.get(cell, "")
+            yield number, before
+
+
 def in_browser(folder: pathlib.Path) -> Iterator[Any]:
     """What a browser shows behind some events, and what it does with keys and with what is chosen."""
-    pythons = (sys.executable, "/usr/bin/python3")
-    python = next((path for path in pythons if run([path, "-c", "import selenium"], folder).returncode == 0), None)
-    if python is None or not pathlib.Path("/usr/bin/chromedriver").exists():
-        print("python3-selenium or chromium-driver is missing, and no player is opened in a browser")
+    python = driver("player")
+    if python is None:
         return
-    driver = [python, "-m", "rengahowi.player_browser"]
-    yield from side_by_side(folder, driver)
+    yield from side_by_side(folder, python)
     for name, numbers in SHOWN.items():
         page, path = folder / f"{name}.html", EXAMPLES / f"{name}.toml"
         page.write_text(tool("player", path, EXAMPLES / f"{name}.txt")[1], encoding="utf-8")
         more = ["--at", *CHOSEN] if name == "old-way" else []
-        done = run([*driver, page, *map(str, numbers), *more], TOP / "tools", text=True)
-        seen = json.loads(done.stdout or "{}")
+        seen = json.loads(python("rengahowi.player_browser", page, *numbers, *more) or "{}")
         at = AtEvent(str(path), "end")
         events = list(at.events)
         wrong = [
@@ -105,7 +125,11 @@ def in_browser(folder: pathlib.Path) -> Iterator[Any]:
         ]
         yield compare(f"player of {name} in a browser", (len(seen.get("states", ())), wrong), (len(numbers), []))
         yield compare(f"player of {name}, opened at an event", (seen.get("opened"), seen.get("log")), ([numbers[0], True], []))
+        yield compare(f"player of {name}, texts that meet", seen.get("meet"), [])
+        if name in MARKS:
+            yield compare(f"player of {name}, marks", seen.get("marks"), MARKS[name])
         if more:
+            yield compare("player, rounds", seen.get("rounds"), ROUNDS)
             yield compare("player, keys", seen.get("keys"), KEYS)
             yield compare("player, next change", seen.get("changes"), CHANGES)
             yield compare("player, event 38", seen["states"][0][1:], ["38: arrive 6 (of 48)", 1, 1, 1])
@@ -114,11 +138,11 @@ def in_browser(folder: pathlib.Path) -> Iterator[Any]:
             yield compare("player, a wire", "priority 10: standing by" in chosen.get("wire xa", ""), True)
 
 
-def side_by_side(folder: pathlib.Path, driver: list[Any]) -> Iterator[Any]:
+def side_by_side(folder: pathlib.Path, python: Callable[..., str]) -> Iterator[Any]:
     """Two runs move together: to the same command, and as many events behind it."""
     page, words = folder / "pair.html", (EXAMPLES / "old-way.toml", EXAMPLES / "old-way.txt", "--against", EXAMPLES / "spoke-moves.txt")
     page.write_text(tool("player", *words, "--scenario", EXAMPLES / "spoke-moves.toml")[1], encoding="utf-8")
-    seen = json.loads(run([*driver, page, "5", "38"], TOP / "tools", text=True).stdout or "{}")
+    seen = json.loads(python("rengahowi.player_browser", page, "5", "38") or "{}")
     right = [["5: connect b x (of 48)", "5: connect b x (of 45)"], ["38: arrive 6 (of 48)", "43: arrive 6 (of 45)"]]
     yield compare("player --against", (seen.get("both"), seen.get("log")), (right, []))
     status, said, fault = tool("player", *words[:2], "--scenario", words[0])

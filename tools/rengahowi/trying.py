@@ -7,6 +7,7 @@ import pathlib
 import shlex
 import shutil
 import subprocess
+import sys
 import time
 import xml.etree.ElementTree
 
@@ -18,7 +19,7 @@ if TYPE_CHECKING:
 TOP = pathlib.Path(__file__).resolve().parent.parent.parent
 PROGRAM = str(TOP / "bin" / "vplsnet")
 # External programs that some checks need, and the Debian package of each.
-PACKAGES = {"dot": "graphviz", "tshark": "tshark", "capinfos": "wireshark-common"}
+PACKAGES = {"tshark": "tshark", "capinfos": "wireshark-common"}
 # The severity of an error of Wireshark's expert.
 ERROR = 0x00800000
 HTML = "{http://www.w3.org/1999/xhtml}"
@@ -62,6 +63,16 @@ def missing() -> Any:
     for program in sorted(gone):
         print(f"{program} is missing (Debian: {PACKAGES[program]}), and what needs it is not tried")
     return gone
+
+
+def driver(what: str) -> Callable[..., str] | None:
+    """Runs a module that drives a browser, with its words, and answers what it printed. None where no browser can be driven, which is said."""
+    pythons = (sys.executable, "/usr/bin/python3")
+    python = next((path for path in pythons if run([path, "-c", "import selenium"], TOP).returncode == 0), None)
+    if python is None or not pathlib.Path("/usr/bin/chromedriver").exists():
+        print(f"python3-selenium or chromium-driver is missing, and no {what} is opened in a browser")
+        return None
+    return lambda module, *words: str(run([python, "-m", module, *map(str, words)], TOP / "tools", text=True).stdout)
 
 
 def boxes_in(picture: Any) -> tuple[Any, ...]:
