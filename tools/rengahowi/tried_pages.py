@@ -4,6 +4,7 @@ from __future__ import annotations
 
 import re
 
+from .crate_heads import PAGE, with_table
 from .trying import TOP, compare
 
 TYPE_CHECKING = False
@@ -118,6 +119,7 @@ def named(_folder: pathlib.Path, _gone: set[str]) -> Iterator[Any]:
         yield compare(f"{at[page]}: commands", list(commands(text)), [])
     text = told[TOP / "docs" / "THEOREMS.md"]
     yield compare("definitions and calls of THEOREMS", sorted(set(names(text, known))), [])
+    yield compare("crates of ARCHITECTURE: tools/make-crate-table", with_table(told[PAGE]) == told[PAGE], True)
     bad = "RFC 5036\n/// sections 3.5.7 and 3.99, [here](THEOREMS.md#no-heading), `bin/vplsnet play`, `docs/NOTHING.md`, `is_never_there`"
     seen = [*sections(bad), *links(TOP / "docs" / "TOUR.md", bad), *files(bad), *commands(bad), *names(bad, known)]
     wanted = ["RFC 5036 section 3.99", "THEOREMS.md#no-heading", "docs/NOTHING.md", "play", "is_never_there"]

@@ -1,0 +1,62 @@
+"""The table of the crates in docs/ARCHITECTURE.md, made of crates.txt and of the words at each crate's head."""
+
+from __future__ import annotations
+
+import re
+
+from .trying import TOP
+
+TYPE_CHECKING = False
+if TYPE_CHECKING:
+    import pathlib
+    from collections.abc import Iterator
+
+PAGE = TOP / "docs" / "ARCHITECTURE.md"
+FROM = "<!-- made by tools/make-crate-table: its words stand at the head of each crate -->\n"
+TO = "<!-- end of the crates -->\n"
+# What the head of each crate of laws says of its files is said once, above the table.
+RUNS_NOTHING = re.compile(r" ?This crate runs nothing: .*?as (?:its|a) contract\.", re.DOTALL)
+
+
+def crates() -> Iterator[tuple[str, str]]:
+    """The crates as crates.txt lists them, each behind the heading of its group."""
+    group = ""
+    for line in (TOP / "crates.txt").read_text(encoding="utf-8").splitlines():
+        if line.startswith("#"):
+            group = line[1:].strip()
+        elif ":" in line:
+            yield group, line.partition(":")[0]
+
+
+def main_file(crate: str) -> pathlib.Path:
+    """The file with the head of a crate."""
+    source = TOP / "crates" / crate / "src"
+    return source / "lib.rt" if (source / "lib.rt").exists() else source / "main.rt"
+
+
+def head(crate: str) -> str:
+    """The first paragraph of the words at the head of a crate."""
+    words = []
+    for line in main_file(crate).read_text(encoding="utf-8").splitlines():
+        if not line.startswith("//! "):
+            break
+        words.append(line[4:])
+    return RUNS_NOTHING.sub("", " ".join(words))
+
+
+def table() -> str:
+    """The rows of all crates, a heading of each group before them."""
+    rows, last = ["| Crate | What it is |", "|---|---|"], None
+    for group, crate in crates():
+        if group != last:
+            rows.append(f"| | **{group}** |")
+            last = group
+        rows.append(f"| `{crate}` | {head(crate)} |")
+    return "\n".join(rows) + "\n"
+
+
+def with_table(page: str) -> str:
+    """The page with the table of today in its place."""
+    before, _, rest = page.partition(FROM)
+    _, _, behind = rest.partition(TO)
+    return f"{before}{FROM}\n{table()}\n{TO}{behind}"
