@@ -12,6 +12,7 @@ from .failures import cases_of
 from .frames import follow
 from .plan import read_plan
 from .report import read_report
+from .silent_by_hand import BY_HAND, FAILED, MENDED, WHOLE
 from .stale import Tables, stale
 from .summing import sum_up
 from .trying import PROGRAM, TOP, compare, run, tool
@@ -24,38 +25,8 @@ if TYPE_CHECKING:
     from .plan import Plan
 
 EXAMPLES = TOP / "examples"
-CROSS, MOVES, MESHED = ("frames-cross", "3"), ("spoke-moves", "11"), ("session-lost", "lose b c")
+CROSS, FULL, MOVES, MESHED = ((name, begin) for name, begin, _ in BY_HAND)
 WORDS = ("--kinds", "silent", "--tick", "1s", "--one-way", "10ms")
-# A plan and its cases as they are counted by hand. Of a case: who lost whom, from and until when (the stage, and the tick and round in
-# it), and the seconds that it takes; the sites of a dead edge; and how many frames never came to whom at once, and once all is
-# delivered. Each site says a broadcast, and a frame to the next circuit. Hold times are 180 ticks, and what is said takes 0.01 s: a
-# session comes up by four messages, of which the last two take each end's mapping with them, and a spoke is used by a fifth one.
-FAILED, MENDED = "failed", "mended"
-UNTIL_MENDED = ((FAILED, 0, 0), (MENDED, 0, 3), 0.04)
-BACK = ((MENDED, 0, 0), (MENDED, 0, 3), 0.04)
-MOVED = ((FAILED, 0, 0), (FAILED, 180, 1), 180.01)
-# The spoke edge goes back to its first spoke, and hears nobody between two messages.
-RETURNS = ((MENDED, 0, 3), (MENDED, 0, 3), 0.01)
-BY_HAND: list[tuple[tuple[str, str], str, list[Any], list[str], dict[str, int], dict[str, int]]] = [
-    (CROSS, "silent a", [({"paris"}, {"lyon", "metz"}, *BACK)], ["lyon", "metz"], {}, {}),
-    (CROSS, "silent b", [({"paris"}, {"lyon", "metz"}, *BACK)], ["paris"], {}, {}),
-    (CROSS, "silent a b", [({"paris"}, {"lyon", "metz"}, *UNTIL_MENDED)], [], {"paris": 3, "lyon": 2, "metz": 1}, {"paris": 3, "lyon": 2, "metz": 1}),
-    (CROSS, "silent a to b", [({"paris"}, {"lyon", "metz"}, *UNTIL_MENDED)], [], {"paris": 3}, {"paris": 3, "lyon": 2, "metz": 1}),
-    (CROSS, "silent b to a", [({"paris"}, {"lyon", "metz"}, *UNTIL_MENDED)], [], {"lyon": 2, "metz": 1}, {"paris": 3, "lyon": 2, "metz": 1}),
-    (MOVES, "silent a", [({"cx"}, {"cc"}, *MOVED), ({"ca"}, {"cc", "cx"}, *BACK), ({"cx"}, {"ca", "cc"}, *RETURNS)], ["ca"], {"cx": 2, "cc": 1}, {}),
-    (MOVES, "silent b", [], [], {}, {}),
-    (MOVES, "silent c", [({"cc"}, {"ca", "cx"}, *BACK)], ["cc"], {}, {}),
-    (MOVES, "silent a c", [({"cc"}, {"ca", "cx"}, *UNTIL_MENDED)], [], {"cc": 3, "cx": 2, "ca": 1}, {"cc": 3, "cx": 2, "ca": 1}),
-    (MOVES, "silent a to c", [({"cc"}, {"ca", "cx"}, *UNTIL_MENDED)], [], {"cc": 3}, {"cc": 3, "cx": 2, "ca": 1}),
-    (MOVES, "silent a x", [({"cx"}, {"ca", "cc"}, *MOVED), ({"cx"}, {"ca", "cc"}, *RETURNS)], [], {"cx": 3, "ca": 2, "cc": 1}, {}),
-    (MOVES, "silent a to x", [({"cx"}, {"ca", "cc"}, *MOVED), ({"cx"}, {"ca", "cc"}, *RETURNS)], [], {"cx": 3}, {}),
-    # What x hears first is that a has given up, and so it moves a message later.
-    (MOVES, "silent x to a", [({"cx"}, {"ca", "cc"}, *MOVED[:2], 180.02), ({"cx"}, {"ca", "cc"}, *RETURNS)], [], {"ca": 2, "cc": 1}, {}),
-    (MESHED, "silent b c", [({"cb"}, {"cc", "cy"}, *UNTIL_MENDED)], [], {"cb": 2, "cc": 2, "cy": 1}, {"cb": 2, "cc": 2, "cy": 1}),
-    (MESHED, "silent d", [({"cd"}, {"ca", "cb", "cc", "cx", "cy"}, *BACK)], ["cd"], {}, {}),
-    (MESHED, "silent y to c", [({"cy"}, {"ca", "cb", "cc", "cd", "cx"}, *UNTIL_MENDED[:2], 0.05)], [],
-     {"ca": 2, "cb": 1, "cc": 1, "cd": 1, "cx": 1}, {"cy": 6, "ca": 2, "cb": 1, "cc": 1, "cd": 1, "cx": 1}),
-]  # fmt: skip
 # Other timers, a link of its own and what both come to: a case of the plan that moves, and the seconds of its first loss.
 TIMED = [
     ((), "silent a x", 180.01),
@@ -97,18 +68,25 @@ def pairs_in(row: dict[str, Any]) -> set[frozenset[str]]:
 
 
 def by_hand() -> Iterator[Any]:
-    """Counts by hand, for three small plans."""
-    for name, begin in (CROSS, MOVES, MESHED):
+    """Counts by hand, for small plans: of three of them for each case."""
+    for name, begin, rights in BY_HAND:
         found = {row["case"]: row for row in tried(name, begin, *WORDS)["cases"]}
-        for plan, case, lost, gone, at_once, failed in BY_HAND:
-            if plan == (name, begin):
-                row = found[case]
-                seen = {(pair, when(one["from"]), when(one["to"]), one["seconds"]) for one in row["lost"] for pair in pairs_in(one)}
-                right = {(frozenset((a, b)), start, end, time) for left, others, start, end, time in lost for a in left for b in others}
-                yield compare(f"what-if {name}, {case}", seen, right)
-                never = (row["never"].get("at once", {}), row["never"].get("failed", {}))
-                yield compare(f"what-if {name}, {case}, never", never, (at_once, failed))
-                yield compare(f"what-if {name}, {case}, rest", (row["gone"], row["twice"], row["stale"], row["calm"]), (gone, {}, [], True))
+        if name in WHOLE:
+            yield compare(f"what-if {name}, its silent cases", list(found), list(rights))
+        for case, right in rights.items():
+            row = found[case]
+            seen = {(pair, moments(one)) for one in row["lost"] for pair in pairs_in(one)}
+            yield compare(f"what-if {name}, {case}", seen, {(frozenset((a, b)), one.span) for one in right.lost for a in one.sites for b in one.others})
+            kept = {phase: counts for phase, counts in (("at once", right.at_once), ("failed", right.failed)) if counts}
+            yield compare(f"what-if {name}, {case}, never", row["never"], kept)
+            rest = tuple(row[key] for key in ("gone", "twice", "back", "stale", "calm", "whole", "as_settled"))
+            yield compare(f"what-if {name}, {case}, rest", rest, (right.gone, {}, {}, [], True, True, True))
+            yield compare(f"what-if {name}, {case}, rounds", tuple(row["rounds"].get(stage, 0) for stage in (FAILED, MENDED)), right.rounds)
+
+
+def moments(one: dict[str, Any]) -> tuple[Any, ...]:
+    """From and until when a loss lasts, and its other numbers."""
+    return when(one["from"]), when(one["to"]), one["ticks"], one["rounds"], one["from"]["seconds"], one["to"]["seconds"], one["detection"], one["signalling"]
 
 
 def when(moment: dict[str, Any]) -> tuple[str, int, int]:
