@@ -5,9 +5,8 @@ use Rattle.net_base.specs.declared.plan.Plan.{Plan}
 use Rattle.net_base.specs.declared.trace.entry.Entry.{Entry}
 use Rattle.net_base.specs.trace.Isolated.{IsolatedAfter, IsolatedEntry}
 use Rattle.net_base.specs.trace.Split.{Split, SplitEntry}
-use Rattle.trace_audit.specs.declared.judge.Judge.{Judge}
 use Rattle.trace_audit.specs.Audited.{FirstCrossing, FirstStray}
-use Rattle.trace_audit.specs.Judged.{begun, is_crossing, is_stray, judges, judges_all}
+use Rattle.trace_audit.specs.Judged.{Judged, begun, is_crossing, is_stray, judges, judges_all}
 use Rattle.trace_audit.proofs.PathLemmas.{Knows, begun_knows, crossed_stays, entry_isolated, entry_split, isolated_entry, knows_more, none_some, split_entry, stray_same, stray_stays}
 
 some_same : {a b : ℕ} → Some a ≡ Some b → a ≡ b
@@ -23,7 +22,7 @@ record StrayBehind (plan : Plan) (earlier es : List Entry) (line : ℕ) : Type 0
   strays : IsolatedEntry plan (earlier ++ before) entry → ⊥
   line_is : line ≡ (length earlier + length before) + 2
 
-stray_behind : (plan : Plan) (earlier es : List Entry) (judge : Judge) (line : ℕ) → Knows plan earlier judge → judge.stray ≡ None → judge.line ≡ length earlier + 1
+stray_behind : (plan : Plan) (earlier es : List Entry) (judge : Judged) (line : ℕ) → Knows plan earlier judge → judge.stray ≡ None → judge.line ≡ length earlier + 1
     → (judges_all plan judge es).stray ≡ Some line → StrayBehind plan earlier es line
 unfolding judges
 stray_behind plan earlier [] judge line knows none at last = none_some line (sym none ∙ last)
@@ -68,7 +67,7 @@ record CrossingBehind (plan : Plan) (earlier : ℕ) (es : List Entry) (line : �
   crosses : SplitEntry plan entry → ⊥
   line_is : line ≡ (earlier + length before) + 2
 
-crossing_behind : (plan : Plan) (earlier : ℕ) (es : List Entry) (judge : Judge) (line : ℕ) → judge.crossed ≡ None → judge.line ≡ earlier + 1 → (judges_all plan judge es).crossed
+crossing_behind : (plan : Plan) (earlier : ℕ) (es : List Entry) (judge : Judged) (line : ℕ) → judge.crossed ≡ None → judge.line ≡ earlier + 1 → (judges_all plan judge es).crossed
     ≡ Some line → CrossingBehind plan earlier es line
 unfolding judges
 crossing_behind plan earlier [] judge line none at last = none_some line (sym none ∙ last)

@@ -19,9 +19,8 @@ use Rattle.net_base.specs.declared.trace.entry.Entry.TheVariants as entry
 use Rattle.net_base.specs.plan.Places.{is_mesh_wire, service_of}
 use Rattle.net_base.specs.trace.Isolated.{Among, CameIn, Isolated, IsolatedAfter, IsolatedEntry, inner_at}
 use Rattle.net_base.specs.trace.Split.{Split, SplitEntry, SplitSent, is_switching_point}
-use Rattle.trace_audit.specs.declared.judge.Judge.{Judge}
 use Rattle.trace_audit.specs.Arrivals.{Entered, has_come, is_entered, with_came}
-use Rattle.trace_audit.specs.Judged.{begun, came_after, crosses, entered_at, entered_in_service, first_line, has_one, inner_found, is_crossing, is_stray, judges, judges_all, ok_of, with_one}
+use Rattle.trace_audit.specs.Judged.{Judged, begun, came_after, crosses, entered_at, entered_in_service, first_line, has_one, inner_found, is_crossing, is_stray, judges, judges_all, ok_of, with_one}
 
 -- ---- the frames that entered
 
@@ -45,17 +44,17 @@ any-append test (x ∷ xs) ys = by (test x) (any-append test xs ys) where
   by false rest = rest
 
 -- two frames that are known to be the same are
-entered_same : (a b : Entered) → is_entered a b ≡ true → a ≡ b
+pub entered_same : (a b : Entered) → is_entered a b ≡ true → a ≡ b
 entered_same a b is =
     let first = and_parts (nat_eq a.number b.number) (nat_eq a.service b.service && bytes_eq a.frame b.frame) is in
     let second = and_parts (nat_eq a.service b.service) (bytes_eq a.frame b.frame) first.1 in
     λ i. record { number = eqb-true a.number b.number first.0 i; service = eqb-true a.service b.service second.0 i; frame = (bytes_eq-Decides a.frame b.frame).0 second.1 i }
 
-entered_itself : (a : Entered) → is_entered a a ≡ true
+pub entered_itself : (a : Entered) → is_entered a a ≡ true
 entered_itself a = rw (eq-eqb a.number a.number refl, eq-eqb a.service a.service refl, same_octets a.frame) refl
 
 -- a frame more is found, and none that was not there before
-kept_found : (came : List Entered) (one other : Entered) → has_come (with_came came one) other ≡ (has_come came other || (is_entered other one || false))
+pub kept_found : (came : List Entered) (one other : Entered) → has_come (with_came came one) other ≡ (has_come came other || (is_entered other one || false))
 kept_found came one other = by (has_come came one) refl where
   here : (b : Bool) → is_entered other one ≡ b → has_come came one ≡ true → has_come came other ≡ (has_come came other || (b || false))
   here true same there = let found : has_come came other ≡ true = subst (λ (x : Entered). has_come came x ≡ true) (sym (entered_same other one same)) there in rw found refl
@@ -213,10 +212,10 @@ isolated_entry plan earlier (entry.Pong edge wire sequence) is = refl
 -- ---- all entries
 
 -- what was known of the entries before is of them
-pub record Knows (plan : Plan) (earlier : List Entry) (judge : Judge) : Type 0 where
+pub record Knows (plan : Plan) (earlier : List Entry) (judge : Judged) : Type 0 where
   pub came : (one : Entered) → has_come judge.came one ≡ has_come (came_list plan earlier) one
 
-pub knows_more : (plan : Plan) (earlier : List Entry) (judge : Judge) (e : Entry) → Knows plan earlier judge → Knows plan (earlier ++ e ∷ []) (judges plan e judge)
+pub knows_more : (plan : Plan) (earlier : List Entry) (judge : Judged) (e : Entry) → Knows plan earlier judge → Knows plan (earlier ++ e ∷ []) (judges plan e judge)
 unfolding judges
 knows_more plan earlier judge e knows = record {
   came = λ one.
@@ -230,7 +229,7 @@ one_same a b None same = refl
 one_same a b (Some one) same = same one
 
 -- so the same entries are strays
-pub stray_same : (plan : Plan) (earlier : List Entry) (judge : Judge) (e : Entry) → Knows plan earlier judge → is_stray plan judge.came e ≡ is_stray plan (came_list plan earlier) e
+pub stray_same : (plan : Plan) (earlier : List Entry) (judge : Judged) (e : Entry) → Knows plan earlier judge → is_stray plan judge.came e ≡ is_stray plan (came_list plan earlier) e
 stray_same plan earlier judge (entry.Left circuit origin hops octets) knows = ap not (one_same judge.came (came_list plan earlier) (entered_at plan circuit origin octets) knows.came)
 stray_same plan earlier judge (entry.Did event) knows = refl
 stray_same plan earlier judge entry.Idle knows = refl
@@ -245,12 +244,12 @@ stray_same plan earlier judge (entry.Wire edge wire down) knows = refl
 stray_same plan earlier judge (entry.Pong edge wire sequence) knows = refl
 
 -- a first line stays the first one
-pub stray_stays : (plan : Plan) (es : List Entry) (judge : Judge) (line : ℕ) → judge.stray ≡ Some line → (judges_all plan judge es).stray ≡ Some line
+pub stray_stays : (plan : Plan) (es : List Entry) (judge : Judged) (line : ℕ) → judge.stray ≡ Some line → (judges_all plan judge es).stray ≡ Some line
 unfolding judges
 stray_stays plan [] judge line is = is
 stray_stays plan (e ∷ es) judge line is = stray_stays plan es (judges plan e judge) line (ap (λ (o : Option ℕ). first_line o (is_stray plan judge.came e) (judge.line + 1)) is)
 
-pub crossed_stays : (plan : Plan) (es : List Entry) (judge : Judge) (line : ℕ) → judge.crossed ≡ Some line → (judges_all plan judge es).crossed ≡ Some line
+pub crossed_stays : (plan : Plan) (es : List Entry) (judge : Judged) (line : ℕ) → judge.crossed ≡ Some line → (judges_all plan judge es).crossed ≡ Some line
 unfolding judges
 crossed_stays plan [] judge line is = is
 crossed_stays plan (e ∷ es) judge line is = crossed_stays plan es (judges plan e judge) line (ap (λ (o : Option ℕ). first_line o (is_crossing plan e) (judge.line + 1)) is)
@@ -258,7 +257,7 @@ crossed_stays plan (e ∷ es) judge line is = crossed_stays plan es (judges plan
 pub none_some : {P : Type 0} (line : ℕ) → None ≡ Some line → P
 none_some line e = absurd (cc e)
 
-pub isolated_by : (plan : Plan) (earlier es : List Entry) (judge : Judge) → Knows plan earlier judge → judge.stray ≡ None → (judges_all plan judge es).stray ≡ None → IsolatedAfter plan earlier es
+pub isolated_by : (plan : Plan) (earlier es : List Entry) (judge : Judged) → Knows plan earlier judge → judge.stray ≡ None → (judges_all plan judge es).stray ≡ None → IsolatedAfter plan earlier es
 unfolding judges
 isolated_by plan earlier [] judge knows none last = tt
 isolated_by plan earlier (e ∷ es) judge knows none last = by (is_stray plan judge.came e) refl (λ next. isolated_by plan (earlier ++ e ∷ []) es (judges plan e judge) (knows_more plan earlier judge e knows) next last) where
@@ -267,7 +266,7 @@ isolated_by plan earlier (e ∷ es) judge knows none last = by (is_stray plan ju
   by true strays rest = none_some (judge.line + 1) (sym last ∙ stray_stays plan es (judges plan e judge) (judge.line + 1) (rw (none, strays) refl))
   by false stays rest = (entry_isolated plan earlier e (sym (stray_same plan earlier judge e knows) ∙ stays), rest (rw (none, stays) refl))
 
-pub by_isolated : (plan : Plan) (earlier es : List Entry) (judge : Judge) → Knows plan earlier judge → judge.stray ≡ None → IsolatedAfter plan earlier es → (judges_all plan judge es).stray ≡ None
+pub by_isolated : (plan : Plan) (earlier es : List Entry) (judge : Judged) → Knows plan earlier judge → judge.stray ≡ None → IsolatedAfter plan earlier es → (judges_all plan judge es).stray ≡ None
 unfolding judges
 by_isolated plan earlier [] judge knows none is = none
 by_isolated plan earlier (e ∷ es) judge knows none is = by_isolated plan (earlier ++ e ∷ []) es (judges plan e judge) (knows_more plan earlier judge e knows) (rw (none, stays) refl) is.1 where
@@ -326,7 +325,7 @@ split_entry plan (entry.Session edge peer name) is = refl
 split_entry plan (entry.Wire edge wire down) is = refl
 split_entry plan (entry.Pong edge wire sequence) is = refl
 
-pub split_by : (plan : Plan) (es : List Entry) (judge : Judge) → judge.crossed ≡ None → (judges_all plan judge es).crossed ≡ None → Split plan es
+pub split_by : (plan : Plan) (es : List Entry) (judge : Judged) → judge.crossed ≡ None → (judges_all plan judge es).crossed ≡ None → Split plan es
 unfolding judges
 split_by plan [] judge none last = tt
 split_by plan (e ∷ es) judge none last = by (is_crossing plan e) refl (λ next. split_by plan es (judges plan e judge) next last) where
@@ -334,7 +333,7 @@ split_by plan (e ∷ es) judge none last = by (is_crossing plan e) refl (λ next
   by true crosses rest = none_some (judge.line + 1) (sym last ∙ crossed_stays plan es (judges plan e judge) (judge.line + 1) (rw (none, crosses) refl))
   by false stays rest = (entry_split plan e stays, rest (rw (none, stays) refl))
 
-pub by_split : (plan : Plan) (es : List Entry) (judge : Judge) → judge.crossed ≡ None → Split plan es → (judges_all plan judge es).crossed ≡ None
+pub by_split : (plan : Plan) (es : List Entry) (judge : Judged) → judge.crossed ≡ None → Split plan es → (judges_all plan judge es).crossed ≡ None
 unfolding judges
 by_split plan [] judge none is = none
 by_split plan (e ∷ es) judge none is = by_split plan es (judges plan e judge) (rw (none, split_entry plan e is.0) refl) is.1

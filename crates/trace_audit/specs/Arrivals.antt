@@ -1,7 +1,8 @@
 -- The frames that entered.
-use Rattle.std.specs.Prelude.{◌==◌, ◌&&◌, ◌++◌, ℕ, Bool, List, [], ◌∷◌, if◌then◌else◌}
+use Rattle.std.specs.Prelude.{◌≡◌, ◌<◌, ◌==◌, ◌&&◌, ◌||◌, ◌++◌, ℕ, Bool, false, List, [], ◌∷◌, Option, Some, None, slice_get, if◌then◌else◌}
 use Rattle.std.specs.List.{list_any}
 use Rattle.std.specs.Str.{bytes_eq}
+use Rattle.seen_state.specs.Numbered.{Values, value_at}
 use Rattle.trace_audit.specs.declared.came.Came.{Came}
 
 -- a frame without the tag of its circuit, with its number and its service
@@ -25,3 +26,39 @@ has_come came one = list_any (is_entered one) came
 -- one more frame, where it is new
 abbrev pub with_came : List Entered → Entered → List Entered
 with_came came one = if has_come came one then came else came ++ one ∷ []
+
+-- the frames that entered: the first ones of their numbers, by the places that their numbers tell, and the others
+pub record ArrivalLists : Type 0 where
+  pub places : Values ℕ
+  pub firsts : List Came
+  pub others : List Came
+
+-- each place is one of so many
+abbrev pub ArePlaced : Values ℕ → ℕ → Type 0
+ArePlaced places count = (number place : ℕ) → value_at places number ≡ Some place → place < count
+
+-- the frame at a place, where one is told
+abbrev pub came_at : List Came → Option ℕ → Option Came
+came_at firsts None = None
+came_at firsts (Some place) = slice_get firsts place
+
+-- the first frame that entered under the number
+abbrev pub first_under : ArrivalLists → ℕ → Option Came
+first_under arrivals number = came_at arrivals.firsts (value_at arrivals.places number)
+
+-- the frame is that one
+abbrev pub is_first : Entered → Option Came → Bool
+is_first one None = false
+is_first one (Some kept) = is_entered one (entered_of kept)
+
+-- the frame is one of those that entered under numbers that others had
+abbrev pub has_other : List Came → Entered → Bool
+has_other others one = list_any (λ kept. is_entered one (entered_of kept)) others
+
+-- the frame entered under its number, in its service
+abbrev pub has_arrived : ArrivalLists → Entered → Bool
+has_arrived arrivals one = is_first one (first_under arrivals one.number) || has_other arrivals.others one
+
+-- these are the frames that entered
+abbrev pub TellsArrivals : ArrivalLists → List Entered → Type 0
+TellsArrivals arrivals came = (one : Entered) → has_arrived arrivals one ≡ has_come came one

@@ -11,7 +11,7 @@ use Rattle.trace_audit.specs.declared.audit_stop.AuditStop.{AuditStop}
 use Rattle.trace_audit.specs.declared.audit_stop.AuditStop.TheVariants.{Form, Isolated, Split, Once, NoMemory}
 use Rattle.trace_audit.specs.declared.ears.Ears.{Ears}
 use Rattle.trace_audit.specs.Audited.{FirstOfOnce, FirstOfSplit, FirstStray, IsGoodTrace}
-use Rattle.trace_audit.specs.Judged.{begun, judges_all}
+use Rattle.trace_audit.specs.Judged.{KnowsJudged, begun, judges_all}
 
 -- the stop that tells a report's fault
 abbrev pub fault_stop : ReportFault → AuditStop
@@ -29,7 +29,7 @@ pub record AreEarsOf (plan : Plan) (ears : Ears) : Type 0 where
 
 -- these entries were heard
 pub record HasHeardAll (plan : Plan) (trace : List Entry) (ears : Ears) : Type 0 where
-  pub judged : ears.judge ≡ judges_all plan begun trace
+  pub judged : KnowsJudged ears.judge (judges_all plan begun trace)
   pub windows : HasHeard plan trace ears.windows
 
 -- some entries were heard

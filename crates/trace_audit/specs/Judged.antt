@@ -1,5 +1,5 @@
 -- What is known of a report behind the lines that were read.
-use Rattle.std.specs.Prelude.{◌==◌, ◌&&◌, ◌+◌, not, ℕ, Bool, false, List, [], ◌∷◌, Option, Some, None, Result, Ok, Err, if◌then◌else◌}
+use Rattle.std.specs.Prelude.{◌≡◌, ◌==◌, ◌&&◌, ◌+◌, not, ℕ, Bool, false, List, [], ◌∷◌, Option, Some, None, Result, Ok, Err, if◌then◌else◌}
 use Rattle.net_base.specs.declared.plan.Plan.{Plan}
 use Rattle.net_base.specs.declared.plan.places.CircuitId.{CircuitId}
 use Rattle.net_base.specs.declared.plan.places.EdgeId.{EdgeId}
@@ -13,10 +13,24 @@ use Rattle.net_base.specs.plan.Places.{is_mesh_wire, service_of}
 use Rattle.net_base.specs.trace.Isolated.{inner_at}
 use Rattle.net_base.specs.trace.Split.{is_switching_point}
 use Rattle.trace_audit.specs.declared.judge.Judge.{Judge}
-use Rattle.trace_audit.specs.Arrivals.{Entered, has_come, with_came}
+use Rattle.trace_audit.specs.Arrivals.{Entered, TellsArrivals, has_come, with_came}
+
+-- what is known behind the lines that were read: how many, the frames that entered, and the first lines that break the two rules
+pub record Judged : Type 0 where
+  pub line : ℕ
+  pub came : List Entered
+  pub stray : Option ℕ
+  pub crossed : Option ℕ
+
+-- the judge knows it
+pub record KnowsJudged (judge : Judge) (judged : Judged) : Type 0 where
+  pub line : judge.line ≡ judged.line
+  pub came : TellsArrivals judge.came judged.came
+  pub stray : judge.stray ≡ judged.stray
+  pub crossed : judge.crossed ≡ judged.crossed
 
 -- before the first entry, behind the line that names the format
-abbrev pub begun : Judge
+abbrev pub begun : Judged
 begun = record { line = 1; came = []; stray = None; crossed = None }
 
 -- ---- frames that leave
@@ -81,7 +95,7 @@ first_line (Some line) holds here = Some line
 first_line None holds here = if holds then Some here else None
 
 -- what an entry makes of what was judged so far
-unfoldable pub judges : Plan → Entry → Judge → Judge
+unfoldable pub judges : Plan → Entry → Judged → Judged
 judges plan entry judge = record {
   line = judge.line + 1;
   came = came_after plan entry judge.came;
@@ -90,6 +104,6 @@ judges plan entry judge = record {
 }
 
 -- what is known behind entries
-abbrev pub judges_all : Plan → Judge → List Entry → Judge
+abbrev pub judges_all : Plan → Judged → List Entry → Judged
 judges_all plan judge [] = judge
 judges_all plan judge (e ∷ es) = judges_all plan (judges plan e judge) es

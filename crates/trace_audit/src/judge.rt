@@ -1,8 +1,8 @@
 //! What is known of a report behind the lines that were read.
-ghost use Rattle.std.specs.Prelude.{◌≡◌, true, ◌<◌, ◌+◌, ◌++◌, ◌^◌, IfOk, OnOk, option_map};
+ghost use Rattle.std.specs.Prelude.{◌≡◌, true, ◌<◌, ◌+◌, ◌++◌, ◌^◌, List, IfOk, OnOk, option_map};
 ghost use Rattle.net_base.specs.{plan.Places.{is_mesh_wire, service_of}, trace.Split.{is_inside, is_switching_point}};
-ghost use Rattle.trace_audit.specs.Judged.{begun, came_after, crosses, entered_at, first_line, has_one, inner_found, is_crossing, is_stray, judges, with_one};
-ghost use Rattle.trace_audit.specs.Arrivals.{entered_of};
+ghost use Rattle.trace_audit.specs.Judged.{Judged, KnowsJudged, begun, came_after, crosses, entered_at, first_line, has_one, inner_found, is_crossing, is_stray, judges, with_one};
+ghost use Rattle.trace_audit.specs.Arrivals.{Entered, TellsArrivals, entered_of};
 
 use crate::arrivals::Arrivals;
 use crate::came::Came;
@@ -93,7 +93,7 @@ fn came_at(
 
 // Whether a frame that leaves at a circuit is seen to have entered before, at a circuit of the same service. It takes no memory.
 fn shows_come(plan: &Plan, came: &Arrivals, circuit: CircuitId, origin: u64, octets: &[u8]) -> bool
-    ensures { result ≡ true → has_one came.now (entered_at plan.now circuit origin octets.now) ≡ true }
+    ensures { (known : List Entered) → TellsArrivals came.now known → result ≡ true → has_one known (entered_at plan.now circuit origin octets.now) ≡ true }
 {
     let Some(row) = plan.circuits.get(circuit.0 as usize) else {
         return false;
@@ -116,7 +116,7 @@ fn has_come_in(
     origin: u64,
     octets: &[u8],
 ) -> Result<bool, NoMemory>
-    ensures { IfOk result (λ come. come ≡ has_one came.now (entered_at plan.now circuit origin octets.now)) }
+    ensures { (known : List Entered) → TellsArrivals came.now known → IfOk result (λ come. come ≡ has_one known (entered_at plan.now circuit origin octets.now)) }
 {
     if shows_come(plan, came, circuit, origin, octets) {
         return Ok(true);
@@ -135,7 +135,7 @@ fn is_stray_entry(
     came: &Arrivals,
     entry: &Entry,
 ) -> Result<bool, NoMemory>
-    ensures { IfOk result (λ strays. strays ≡ is_stray plan.now came.now entry.now) }
+    ensures { (known : List Entered) → TellsArrivals came.now known → IfOk result (λ strays. strays ≡ is_stray plan.now known entry.now) }
 {
     match *entry {
         Entry::Left {
@@ -160,7 +160,7 @@ fn keep(
     number: u64,
     octets: &[u8],
 ) -> Result<(), NoMemory>
-    ensures { OnOk result (came.new ≡ with_one came.old (entered_at plan.now circuit number octets.now)) }
+    ensures { OnOk result ((known : List Entered) → TellsArrivals came.old known → TellsArrivals came.new (with_one known (entered_at plan.now circuit number octets.now))) }
 {
     match came_at(alloc, plan, circuit, number, octets) {
         Ok(Some(one)) => came.add(one),
@@ -176,7 +176,7 @@ fn keep_entry(
     came: &mut Arrivals,
     entry: &Entry,
 ) -> Result<(), NoMemory>
-    ensures { OnOk result (came.new ≡ came_after plan.now entry.now came.old) }
+    ensures { OnOk result ((known : List Entered) → TellsArrivals came.old known → TellsArrivals came.new (came_after plan.now entry.now known)) }
 {
     match *entry {
         Entry::In {
@@ -265,7 +265,7 @@ fn stray_line(
     entry: &Entry,
     here: u64,
 ) -> Result<Option<u64>, NoMemory>
-    ensures { IfOk result (λ first. first ≡ first_line line (is_stray plan.now came.now entry.now) here) }
+    ensures { (known : List Entered) → TellsArrivals came.now known → IfOk result (λ first. first ≡ first_line line (is_stray plan.now known entry.now) here) }
 {
     match line {
         Some(line) => Ok(Some(line)),
@@ -296,7 +296,7 @@ fn crossed_line(plan: &Plan, line: Option<u64>, entry: &Entry, here: u64) -> Opt
 impl Judge {
     /// What is known behind the line that names the format.
     pub fn new(alloc: Global) -> Judge
-        ensures { result ≡ begun }
+        ensures { KnowsJudged result begun }
     {
         Judge {
             line: 1,
@@ -310,7 +310,7 @@ impl Judge {
     #[tactic(auto, unfolding(crate::specs::Judged::judges))]
     pub fn hear(&mut self, alloc: Global, plan: &Plan, entry: &Entry) -> Result<(), NoMemory>
         requires { self.old.line < 2 ^ 63 }
-        ensures judged { OnOk result (self.new ≡ judges plan.now entry.now self.old) }
+        ensures judged { OnOk result ((known : Judged) → KnowsJudged self.old known → KnowsJudged self.new (judges plan.now entry.now known)) }
         ensures line { OnOk result (self.new.line ≡ self.old.line + 1) }
     {
         let here = self.line + 1;

@@ -1,8 +1,14 @@
 -- Sources of frames, one frame after the other.
-use Rattle.std.proofs.Common.{◌≡◌, ◌==◌, ◌<◌, ◌&&◌, ◌||◌, ◌++◌, ◌∷◌, ◌∙◌, [], ℕ, Bool, true, false, List, Option, Some, None, cond, refl, ap, sym, arith, length, drop}
+use Rattle.std.proofs.Common.{Ordering, ◌≡◌, ◌==◌, ◌<◌, ◌&&◌, ◌||◌, ◌++◌, ◌∷◌, ◌∙◌, [], ℕ, Bool, true, false, List, Option, Some, None, cond, nat_lt, refl, ap, ap₂, sym, arith, length, drop}
 use Rattle.std.proofs.lemmas.List.{length-drop, length-take}
 use Rattle.std.proofs.lemmas.Slice.Eq.{bytes_eq-Decides}
 use Rattle.std.proofs.lemmas.Bool.{and_right}
+use Rattle.std.proofs.lemmas.Map.Text.{is_eq-slice_cmp}
+use Rattle.std.specs.BTreeMap.{is_at}
+use Rattle.std.specs.Cmp.Lexicographic.{slice_cmp}
+use Rattle.std.specs.Ordering.{is_eq, nat_cmp, ordering_then}
+use Rattle.std.specs.declared.cmp.Ordering.TheVariants.{Less, Equal, Greater}
+use Rattle.net_values.proofs.NumberLemmas.{less_apart}
 use Rattle.std.specs.List.{list_any}
 use Rattle.std.specs.Str.{bytes_eq}
 use Rattle.net_base.specs.declared.plan.Plan.{Plan}
@@ -39,11 +45,39 @@ or_false : (b c : Bool) → c ≡ false → b ≡ b || c
 or_false true c is = refl
 or_false false c is = sym is
 
+-- ---- the order of sources
+
+abbrev pub source_order : Source → Source → Ordering
+source_order a b = ordering_then (nat_cmp a.service b.service) (slice_cmp nat_cmp a.address.0 b.address.0)
+
+number_at : (a b : ℕ) → is_eq (nat_cmp a b) ≡ (a == b)
+number_at a b = by (nat_lt a b) (a == b) (less_apart a b) where
+  by : (l e : Bool) → (l ≡ true → e ≡ false) → is_eq (cond l Less (cond e Equal Greater)) ≡ e
+  by true e apart = sym (apart refl)
+  by false true apart = refl
+  by false false apart = refl
+
+both_at : (o p : Ordering) → is_eq (ordering_then o p) ≡ is_eq o && is_eq p
+both_at Less p = refl
+both_at Equal p = refl
+both_at Greater p = refl
+
+-- a source stands where the other one does where they are the same
+source_at : (a b : Source) → is_eq (source_order a b) ≡ a.service == b.service && bytes_eq a.address.0 b.address.0
+source_at a b =
+    both_at (nat_cmp a.service b.service) (slice_cmp nat_cmp a.address.0 b.address.0)
+    ∙ ap₂ (λ (x y : Bool). x && y) (number_at a.service b.service) (is_eq-slice_cmp a.address.0 b.address.0)
+
+pub found_source : (sources : List Source) (s : Source) → list_any (is_at (source_order s)) sources ≡ has_source sources s.service s.address.0
+found_source [] s = refl
+found_source (x ∷ xs) s = ap₂ (λ (a b : Bool). a || b) (source_at s x) (found_source xs s)
+
 pub put_one : (old new : List Source) (s : Source)
-    → ((q : Source) → list_any (λ (k : Source). q.service == k.service && bytes_eq q.address.0 k.address.0) new
-    ≡ cond (s.service == q.service && bytes_eq s.address.0 q.address.0) true (list_any (λ (k : Source). q.service == k.service && bytes_eq q.address.0 k.address.0) old))
+    → ((q : Source) → list_any (is_at (source_order q)) new ≡ cond (is_at (source_order s) q) true (list_any (is_at (source_order q)) old))
     → (other : ServiceId) (address : Mac) → has_source new other.0 address.0 ≡ cond (s.service == other.0 && bytes_eq s.address.0 address.0) true (has_source old other.0 address.0)
-put_one old new s put other address = put (record { service = other.0; address = address })
+put_one old new s put other address =
+    let q : Source = record { service = other.0; address = address } in
+    sym (found_source new q) ∙ (put q ∙ ap₂ (λ (a b : Bool). cond a true b) (source_at s q) (found_source old q))
 
 pub entered_short : (plan : Plan) (circuit : CircuitId) (octets : List ℕ) (sources : List Source) → length octets < 12 → HasEnteredOnce plan circuit octets sources sources
 entered_short plan circuit octets sources few = λ service address six.

@@ -6,16 +6,17 @@ ghost use Rattle.window_audit.specs.Sources.{HasEnteredOnce, HasSources, has_sou
 
 use crate::address::address_at;
 use crate::source::Source;
-use indexmap::IndexSet;
 use net_base::{CircuitId, Entry, NoMemory, Plan, ServiceId};
 use net_values::Mac;
 use std::alloc::Global;
+use std::collections::BTreeSet;
 use std::marker::Model;
 
-/// The sources of the frames that entered, by the services that they entered.
+/// The sources of the frames that entered, by the services that they entered. They are kept in an order, so that no choice of addresses
+/// makes one dear to find.
 #[derive(Drop)]
 pub struct Sources {
-    set: IndexSet<Source>,
+    set: BTreeSet<Source>,
 }
 
 impl Model for Sources {
@@ -33,7 +34,7 @@ impl Sources {
         ensures { (plan : Planned) → HasSources plan result [] }
     {
         Sources {
-            set: IndexSet::new(alloc),
+            set: BTreeSet::new(alloc),
         }
     }
 
