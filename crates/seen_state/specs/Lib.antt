@@ -1,5 +1,6 @@
 pub mod Calm
 pub mod Copies
+pub mod EdgePairs
 pub mod Numbered
 pub mod PeerEnd
 pub mod Placed

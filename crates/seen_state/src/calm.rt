@@ -1,14 +1,17 @@
 //! Which services are seen calm.
-ghost use Rattle.std.specs.{Prelude.{◌≡◌, ◌==◌, ◌&&◌, ◌<◌, ◌≤◌, [], length}, List.{list_any}};
-ghost use Rattle.net_base.specs.{plan.Accepted.{IsWithinLimits}, plan.Paths.{joins}};
-ghost use Rattle.net_base.specs.plan.Roles.{all_below, is_core_edge, is_spoke_edge, is_wire_of};
-ghost use Rattle.seen_network.specs.Calm.{has_seen_spokes, is_seen_calm, is_seen_drained, is_seen_full, is_seen_quiet, is_seen_up};
+ghost use Rattle.std.specs.Prelude.{◌≡◌, ◌&&◌, ◌||◌, ◌<◌, ◌≤◌, ℕ, [], length};
+ghost use Rattle.net_base.specs.plan.{Accepted.{IsWithinLimits}, Paths.{is_first, is_last}, Places.{is_mesh_class}};
+ghost use Rattle.net_base.specs.plan.Roles.{all_below, any_wire, count_wires, is_mesh_of};
+ghost use Rattle.seen_network.specs.Calm.{has_seen_spokes, is_seen_calm, is_seen_drained, is_seen_full, is_seen_mesh, is_seen_quiet, is_seen_spoke, is_seen_up};
 ghost use Rattle.seen_network.specs.Seen.{Seen};
 ghost use Rattle.seen_state.specs.{Calm.{has_one_spoke, is_seen_full_between, is_seen_quiet_between}, Sight.{ShowsSight, shown_with}};
+ghost use Rattle.seen_state.specs.EdgePairs.{AreEdgesOf, AreJoined, AreMeshed, has_pair};
 
+use crate::edge_pairs::EdgePairs;
+use crate::service_edges::{ServiceEdges, joined};
 use crate::sight::Sight;
-use hvpls_spokes::{Role, is_mesh_between, role, starts_spoke};
-use net_base::{EdgeId, Plan, ServiceId, WirePlan, first_of, last_of};
+use hvpls_spokes::starts_spoke;
+use net_base::{Class, EdgeId, Plan, ServiceId, WirePlan, first_of, last_of};
 
 impl Sight {
     /// Whether a service is seen calm: each two edges that it joins have both ends of their connection or neither and nothing between
@@ -27,8 +30,11 @@ impl Sight {
         requires { IsWithinLimits plan.now }
         ensures { result ≡ is_seen_calm plan.now (shown_with self.now []) service }
     {
-        (self.is_quiet(plan, service) && self.is_full(plan, service))
-            && self.has_spokes(plan, service)
+        if !self.is_quiet(plan, service) {
+            return false;
+        }
+        let edges = ServiceEdges::of(plan, service);
+        self.is_full(plan, service, &edges) && self.has_spokes(plan, service, &edges)
     }
 
     // Nothing is seen between two edges that the service joins.
@@ -37,9 +43,10 @@ impl Sight {
         requires { IsWithinLimits plan.now }
         ensures { result ≡ is_seen_quiet plan.now (shown_with self.now []) service }
     {
+        let pairs = joined(plan, service);
         let count = plan.edges.len();
         for a in 0..count {
-            if !self.is_quiet_beside(plan, service, a) {
+            if !self.is_quiet_beside(plan, service, &pairs, a) {
                 return false;
             }
         }
@@ -48,14 +55,15 @@ impl Sight {
 
     // Nothing is seen between an edge and another one that the service joins with it.
     #[tactic(auto, using(crate::proofs::CalmLemmas::below_more))]
-    fn is_quiet_beside(&self, plan: &Plan, service: ServiceId, a: usize) -> bool
+    fn is_quiet_beside(&self, plan: &Plan, service: ServiceId, pairs: &EdgePairs, a: usize) -> bool
         requires limits { IsWithinLimits plan.now }
+        requires pairs { AreJoined plan.now service pairs.now }
         requires a { a < length plan.now.edges }
         ensures { result ≡ all_below (length plan.now.edges) (is_seen_quiet_between plan.now (shown_with self.now []) service a) }
     {
         let count = plan.edges.len();
         for b in 0..count {
-            if !self.is_quiet_between(plan, service, EdgeId(a as u16), EdgeId(b as u16)) {
+            if !self.is_quiet_between(plan, service, pairs, EdgeId(a as u16), EdgeId(b as u16)) {
                 return false;
             }
         }
@@ -65,10 +73,13 @@ impl Sight {
     // Nothing is seen between the two edges, where the service joins them: neither end of their connection stands, or both stand and
     // nothing is on its way or held.
     #[tactic(auto, unfolding(crate::specs::Sight::shown_with))]
-    fn is_quiet_between(&self, plan: &Plan, service: ServiceId, a: EdgeId, b: EdgeId) -> bool
+    fn is_quiet_between(&self, plan: &Plan, service: ServiceId, pairs: &EdgePairs, a: EdgeId, b: EdgeId) -> bool
+        requires pairs { AreJoined plan.now service pairs.now }
+        requires a { a.0 < 64 }
+        requires b { b.0 < 64 }
         ensures { result ≡ is_seen_quiet_between plan.now (shown_with self.now []) service a.0 b.0 }
     {
-        if !are_joined_by(plan.wires.as_slice(), service, a, b) {
+        if !pairs.contains(a.0, b.0) {
             return true;
         }
         let (one, other) = (self.stands(a, b), self.stands(b, a));
@@ -99,13 +110,15 @@ impl Sight {
 
     // Each two core edges of the service have a mesh wire that is up at both terminal edges.
     #[tactic(auto, using(crate::proofs::CalmLemmas::below_more))]
-    fn is_full(&self, plan: &Plan, service: ServiceId) -> bool
-        requires { IsWithinLimits plan.now }
+    fn is_full(&self, plan: &Plan, service: ServiceId, edges: &ServiceEdges) -> bool
+        requires limits { IsWithinLimits plan.now }
+        requires edges { AreEdgesOf plan.now service edges.now }
         ensures { result ≡ is_seen_full plan.now (shown_with self.now []) service }
     {
+        let pairs = self.meshed(plan, service);
         let count = plan.edges.len();
         for a in 0..count {
-            if !self.is_full_beside(plan, service, a) {
+            if !self.is_full_beside(plan, service, edges, &pairs, a) {
                 return false;
             }
         }
@@ -114,14 +127,23 @@ impl Sight {
 
     // A core edge has a mesh wire that is up with each other core edge.
     #[tactic(auto, using(crate::proofs::CalmLemmas::below_more))]
-    fn is_full_beside(&self, plan: &Plan, service: ServiceId, a: usize) -> bool
+    fn is_full_beside(
+        &self,
+        plan: &Plan,
+        service: ServiceId,
+        edges: &ServiceEdges,
+        pairs: &EdgePairs,
+        a: usize,
+    ) -> bool
         requires limits { IsWithinLimits plan.now }
+        requires edges { AreEdgesOf plan.now service edges.now }
+        requires pairs { AreMeshed plan.now (shown_with self.now []) service pairs.now }
         requires a { a < length plan.now.edges }
         ensures { result ≡ all_below (length plan.now.edges) (is_seen_full_between plan.now (shown_with self.now []) service a) }
     {
         let count = plan.edges.len();
         for b in 0..count {
-            if !self.is_full_between(plan, service, EdgeId(a as u16), EdgeId(b as u16)) {
+            if !self.is_full_between(plan, service, edges, pairs, EdgeId(a as u16), EdgeId(b as u16)) {
                 return false;
             }
         }
@@ -129,32 +151,73 @@ impl Sight {
     }
 
     // The two edges have a mesh wire that is up, where they are two core edges of the service.
-    #[tactic(auto, using(crate::proofs::CalmLemmas::wire_steps))]
-    fn is_full_between(&self, plan: &Plan, service: ServiceId, a: EdgeId, b: EdgeId) -> bool
-        requires { IsWithinLimits plan.now }
+    fn is_full_between(
+        &self,
+        plan: &Plan,
+        service: ServiceId,
+        edges: &ServiceEdges,
+        pairs: &EdgePairs,
+        a: EdgeId,
+        b: EdgeId,
+    ) -> bool
+        requires edges { AreEdgesOf plan.now service edges.now }
+        requires pairs { AreMeshed plan.now (shown_with self.now []) service pairs.now }
+        requires a { a.0 < 64 }
+        requires b { b.0 < 64 }
         ensures { result ≡ is_seen_full_between plan.now (shown_with self.now []) service a.0 b.0 }
     {
-        if !(is_core(plan, service, a) && is_core(plan, service, b)) || a == b {
+        if !(edges.is_core(plan, service, a) && edges.is_core(plan, service, b)) {
             return true;
         }
-        let wires = plan.wires.as_slice();
-        for (place, row) in wires.iter().enumerate() {
-            if is_mesh_between(row, service, a, b) && self.is_up(place, row) {
-                return true;
-            }
+        a == b || pairs.contains(a.0, b.0)
+    }
+
+    // The pairs of edges between which a mesh wire of the service is up.
+    fn meshed(&self, plan: &Plan, service: ServiceId) -> EdgePairs
+        ensures { AreMeshed plan.now (shown_with self.now []) service result }
+    {
+        let mut pairs = EdgePairs::empty();
+        self.mesh_wires(&mut pairs, plan.wires.as_slice(), service);
+        pairs
+    }
+
+    // The pairs between which one of these wires is up, where it is a mesh wire of the service.
+    #[tactic(auto, using(crate::proofs::PairLemmas::any_last))]
+    fn mesh_wires(&self, pairs: &mut EdgePairs, wires: &[WirePlan], service: ServiceId)
+        ensures { (x y : ℕ) → x < 64 → y < 64 → has_pair pairs.new x y ≡ any_wire (is_seen_mesh (shown_with self.now []) service x y) 0 wires.now || has_pair pairs.old x y }
+    {
+        for (place, wire) in wires.iter().enumerate() {
+            self.mesh_wire(pairs, place, wire, service);
         }
-        false
+    }
+
+    // The pair of terminal edges of a wire, where it is a mesh wire of the service that is up.
+    #[tactic(auto, using(crate::proofs::PairLemmas::mesh_put, crate::proofs::PairLemmas::mesh_not))]
+    fn mesh_wire(&self, pairs: &mut EdgePairs, place: usize, wire: &WirePlan, service: ServiceId)
+        ensures { (x y : ℕ) → x < 64 → y < 64 → has_pair pairs.new x y ≡ is_seen_mesh (shown_with self.now []) service x y place wire.now || has_pair pairs.old x y }
+    {
+        if self.is_live_mesh(place, wire, service) {
+            join_ends(pairs, wire.path.as_slice());
+        }
+    }
+
+    // The wire is a mesh wire of the service that is up.
+    fn is_live_mesh(&self, place: usize, wire: &WirePlan, service: ServiceId) -> bool
+        ensures { result ≡ (is_mesh_of service wire.now && is_seen_up (shown_with self.now []) place wire.now) }
+    {
+        (wire.service == service && is_mesh(wire.class)) && self.is_up(place, wire)
     }
 
     // Each spoke edge of the service has exactly one spoke that is up.
     #[tactic(auto, using(crate::proofs::CalmLemmas::below_more))]
-    fn has_spokes(&self, plan: &Plan, service: ServiceId) -> bool
-        requires { IsWithinLimits plan.now }
+    fn has_spokes(&self, plan: &Plan, service: ServiceId, edges: &ServiceEdges) -> bool
+        requires limits { IsWithinLimits plan.now }
+        requires edges { AreEdgesOf plan.now service edges.now }
         ensures { result ≡ has_seen_spokes plan.now (shown_with self.now []) service }
     {
         let count = plan.edges.len();
         for edge in 0..count {
-            if !self.has_one_spoke(plan, service, EdgeId(edge as u16)) {
+            if !self.has_one_spoke(plan, service, edges, EdgeId(edge as u16)) {
                 return false;
             }
         }
@@ -162,14 +225,24 @@ impl Sight {
     }
 
     // The edge has exactly one spoke that is up, where it is a spoke edge of the service.
-    #[tactic(auto, using(crate::proofs::CalmLemmas::wire_steps))]
-    fn has_one_spoke(&self, plan: &Plan, service: ServiceId, edge: EdgeId) -> bool
-        requires { IsWithinLimits plan.now }
+    fn has_one_spoke(&self, plan: &Plan, service: ServiceId, edges: &ServiceEdges, edge: EdgeId) -> bool
+        requires limits { IsWithinLimits plan.now }
+        requires edges { AreEdgesOf plan.now service edges.now }
+        requires edge { edge.0 < 64 }
         ensures { result ≡ has_one_spoke plan.now (shown_with self.now []) service edge.0 }
     {
-        if !starts_some_spoke(plan, service, edge) {
+        if !edges.is_spoke(plan, service, edge) {
             return true;
         }
+        self.live_spokes(plan, service, edge) == 1
+    }
+
+    // How many spokes of the edge are up.
+    #[tactic(auto, using(crate::proofs::CalmLemmas::wire_steps))]
+    fn live_spokes(&self, plan: &Plan, service: ServiceId, edge: EdgeId) -> usize
+        requires { IsWithinLimits plan.now }
+        ensures { result ≡ count_wires (is_seen_spoke (shown_with self.now []) service edge.0) 0 plan.now.wires }
+    {
         let wires = plan.wires.as_slice();
         let mut live: usize = 0;
         for (place, row) in wires.iter().enumerate() {
@@ -177,7 +250,7 @@ impl Sight {
                 live += 1;
             }
         }
-        live == 1
+        live
     }
 
     // A wire is up at both terminal edges.
@@ -190,29 +263,24 @@ impl Sight {
     }
 }
 
-// A segment of some wire of the service joins the two edges.
-fn are_joined_by(wires: &[WirePlan], service: ServiceId, a: EdgeId, b: EdgeId) -> bool
-    ensures { result ≡ list_any (λ wire. is_wire_of service wire && joins a.0 b.0 wire.path) wires.now }
+fn is_mesh(class: Class) -> bool
+    ensures { result ≡ is_mesh_class class }
 {
-    wires.iter().any(|wire| wire.service == service && wire.are_neighbours(a, b))
-}
-
-// The edge is a core edge of the service.
-fn is_core(plan: &Plan, service: ServiceId, edge: EdgeId) -> bool
-    ensures { result ≡ is_core_edge plan.now service edge.0 }
-{
-    match role(plan, service, edge) {
-        Some(Role::Core) => true,
-        Some(Role::SpokeEdge) | None => false,
+    match class {
+        Class::Mesh => true,
+        Class::Spoke => false,
     }
 }
 
-// The edge starts a spoke of the service.
-fn starts_some_spoke(plan: &Plan, service: ServiceId, edge: EdgeId) -> bool
-    ensures { result ≡ is_spoke_edge plan.now service edge.0 }
+// The pair of terminal edges of a path.
+#[tactic(auto, using(net_base::proofs::PathLemmas::is_last_edge, crate::proofs::PairLemmas::no_ends))]
+fn join_ends(pairs: &mut EdgePairs, path: &[EdgeId])
+    ensures { (x y : ℕ) → x < 64 → y < 64 → has_pair pairs.new x y ≡ ((is_first x path.now && is_last y path.now) || (is_first y path.now && is_last x path.now)) || has_pair pairs.old x y }
 {
-    match role(plan, service, edge) {
-        Some(Role::SpokeEdge) => true,
-        Some(Role::Core) | None => false,
+    let Some(first) = first_of(path) else {
+        return;
+    };
+    if let Some(last) = last_of(path) {
+        pairs.join(first, last);
     }
 }

@@ -6,11 +6,13 @@
 
 mod calm;
 mod copies;
+mod edge_pairs;
 mod numbered;
 mod peer_end;
 mod row;
 mod seen_edge;
 mod seen_state;
+mod service_edges;
 mod sight;
 mod sizes;
 mod whole_pdu;

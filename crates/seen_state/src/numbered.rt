@@ -1,5 +1,5 @@
 //! Values by numbers.
-ghost use Rattle.std.specs.Prelude.{◌≡◌, ◌==◌, ℕ, Some, None, OnErr, OnOk, if◌then◌else◌};
+ghost use Rattle.std.specs.Prelude.{◌≡◌, ◌==◌, ◌≤◌, ◌+◌, ℕ, Some, None, length, OnErr, OnOk, if◌then◌else◌};
 ghost use Rattle.seen_state.specs.Numbered.{no_values, value_at};
 
 use crate::row::Row;
@@ -75,10 +75,12 @@ impl<V: Copy> Numbered<V> {
         }
     }
 
-    /// Makes the place of a number, where at most so many are wanting. Each number has the value that it had.
+    /// Makes the place of a number, where at most so many are wanting, and no more than these, whatever the number is. Each number has
+    /// the value that it had.
     #[tactic(auto, using(crate::proofs::NumberedLemmas::values_kept))]
     pub fn reach(&mut self, number: u64, most: usize) -> Result<(), NoMemory>
-        ensures { (n : ℕ) → value_at self.new n ≡ value_at self.old n }
+        ensures kept { (n : ℕ) → value_at self.new n ≡ value_at self.old n }
+        ensures few { length self.new.row.places ≤ length self.old.row.places + most }
     {
         self.row.reach(number, most)
     }

@@ -1,5 +1,5 @@
 //! Values at the places of their numbers.
-ghost use Rattle.std.specs.Prelude.{◌≡◌, ◌==◌, ◌<◌, ◌+◌, ◌^◌, ℕ, [], true, length, if◌then◌else◌};
+ghost use Rattle.std.specs.Prelude.{◌≡◌, ◌==◌, ◌<◌, ◌≤◌, ◌+◌, ◌^◌, ℕ, [], true, length, if◌then◌else◌};
 ghost use Rattle.seen_state.specs.Numbered.{has_place, placed_at, starts_vacant};
 
 use net_base::NoMemory;
@@ -79,9 +79,11 @@ impl<V: Copy> Row<V> {
         value
     }
 
-    /// Makes the place of a number, where at most so many are wanting behind the last one. All values stay.
+    /// Makes the place of a number, where at most so many are wanting behind the last one. All values stay, and no more places are made,
+    /// whatever the number is.
     pub fn reach(&mut self, number: u64, most: usize) -> Result<(), NoMemory>
-        ensures { (n : ℕ) → placed_at self.new n ≡ placed_at self.old n }
+        ensures kept { (n : ℕ) → placed_at self.new n ≡ placed_at self.old n }
+        ensures few { length self.new.places ≤ length self.old.places + most }
     {
         self.start(number);
         let mut more = most;
@@ -94,7 +96,8 @@ impl<V: Copy> Row<V> {
 
     // Where there is no place, the first one is to be that of a number.
     fn start(&mut self, number: u64)
-        ensures { (n : ℕ) → placed_at self.new n ≡ placed_at self.old n }
+        ensures kept { (n : ℕ) → placed_at self.new n ≡ placed_at self.old n }
+        ensures places { self.new.places ≡ self.old.places }
     {
         if self.places.is_empty() {
             self.first = number;
@@ -112,7 +115,8 @@ impl<V: Copy> Row<V> {
     #[tactic(auto, using(crate::proofs::PlaceLemmas::place_pushed))]
     fn push(&mut self) -> Result<(), NoMemory>
         requires { self.old.first + length self.old.places + 1 < 2 ^ 64 }
-        ensures { (n : ℕ) → placed_at self.new n ≡ placed_at self.old n }
+        ensures kept { (n : ℕ) → placed_at self.new n ≡ placed_at self.old n }
+        ensures few { length self.new.places ≤ length self.old.places + 1 }
     {
         match self.places.push_back(None) {
             Ok(()) => Ok(()),
