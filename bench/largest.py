@@ -4,14 +4,14 @@ import itertools
 import os
 import tempfile
 
-from program import PROGRAM, run
+from program import PROGRAM, run, sized
 
-LARGEST = 8_388_608
-EVENTS = 100_000
-CIRCUITS = 512
-EDGES = 64
-WIRES = 1_024
-GROUPS = 2_048
+LARGEST = sized(8_388_608, 40_000)
+EVENTS = sized(100_000, 100)
+CIRCUITS = sized(512, 8)
+EDGES = sized(64, 6)
+WIRES = sized(1_024, 8)
+GROUPS = 2 * WIRES
 TRIES = 9
 # An event that is no command.
 NONE = "jump c1"

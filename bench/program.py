@@ -11,7 +11,7 @@ import sys
 import tempfile
 import time
 from collections.abc import Sequence
-from typing import NamedTuple
+from typing import NamedTuple, TypeVar
 
 TOP = pathlib.Path(__file__).resolve().parent.parent
 sys.path.insert(0, str(TOP / "tools"))
@@ -19,9 +19,27 @@ from rengahowi import writing  # noqa: E402
 from rengahowi.program import measured, require_proved as require_proved  # noqa: E402
 from rengahowi.stamp import is_there  # noqa: E402
 
+Size = TypeVar("Size")
+# With this word a bench runs at a small size, so that `tools/check benches` sees in seconds that it runs; what it prints tells nothing then.
+SMALL = "--small"
+
 # The program itself. `bin/vplsnet` looks for newer sources before each run, which would be measured too.
 PROGRAM = measured()
 TRIES = 5
+
+
+def read_words(said: str | None) -> None:
+    """Has a bench that takes no words end here with its text where it is given one, but for the word that asks for a small size."""
+    words = sys.argv[1:]
+    if words in ([], [SMALL]):
+        return
+    print((said or "").strip())
+    sys.exit(0 if words[0] in ("-h", "--help") else 2)
+
+
+def sized(whole: Size, small: Size) -> Size:
+    """The size of a bench, or the small one."""
+    return small if SMALL in sys.argv[1:] else whole
 
 
 def program_of(name: str) -> str:
@@ -120,12 +138,18 @@ def counts_instructions() -> bool:
 
 
 def instructions(path: str, report: str) -> int:
-    """How many instructions a replay of a scenario takes, as `valgrind` counts them; its report stands in the file `report` then."""
-    words = ["valgrind", "--tool=callgrind", f"--callgrind-out-file={os.devnull}", PROGRAM, "replay", path]
-    with open(report, "wb") as out:
-        done = subprocess.run(words, stdin=subprocess.DEVNULL, stdout=out, stderr=subprocess.PIPE, text=True, check=False)
+    """How many instructions a replay of a scenario takes; its report stands in the file `report` then."""
+    return counted([PROGRAM, "replay", path], report)
+
+
+def counted(words: Sequence[str], output: str, statuses: Sequence[int] = (0,)) -> int:
+    """How many instructions a command takes, as `valgrind` counts them. What it writes stands in the file `output` then. It has to end with
+    one of these statuses."""
+    call = ["valgrind", "--tool=callgrind", f"--callgrind-out-file={os.devnull}", *words]
+    with open(output, "wb") as out:
+        done = subprocess.run(call, stdin=subprocess.DEVNULL, stdout=out, stderr=subprocess.PIPE, text=True, errors="replace", check=False)
     found = [line.split(":")[1] for line in done.stderr.splitlines() if "Collected" in line]
-    if done.returncode != 0 or len(found) != 1:
+    if done.returncode not in statuses or len(found) != 1:
         sys.exit(f"{pathlib.Path(sys.argv[0]).name}: valgrind ended with status {done.returncode}")
     return int(found[0])
 
