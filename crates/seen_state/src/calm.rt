@@ -73,7 +73,14 @@ impl Sight {
     // Nothing is seen between the two edges, where the service joins them: neither end of their connection stands, or both stand and
     // nothing is on its way or held.
     #[tactic(auto, unfolding(crate::specs::Sight::shown_with))]
-    fn is_quiet_between(&self, plan: &Plan, service: ServiceId, pairs: &EdgePairs, a: EdgeId, b: EdgeId) -> bool
+    fn is_quiet_between(
+        &self,
+        plan: &Plan,
+        service: ServiceId,
+        pairs: &EdgePairs,
+        a: EdgeId,
+        b: EdgeId,
+    ) -> bool
         requires pairs { AreJoined plan.now service pairs.now }
         requires a { a.0 < 64 }
         requires b { b.0 < 64 }
@@ -143,7 +150,14 @@ impl Sight {
     {
         let count = plan.edges.len();
         for b in 0..count {
-            if !self.is_full_between(plan, service, edges, pairs, EdgeId(a as u16), EdgeId(b as u16)) {
+            if !self.is_full_between(
+                plan,
+                service,
+                edges,
+                pairs,
+                EdgeId(a as u16),
+                EdgeId(b as u16),
+            ) {
                 return false;
             }
         }
@@ -225,7 +239,13 @@ impl Sight {
     }
 
     // The edge has exactly one spoke that is up, where it is a spoke edge of the service.
-    fn has_one_spoke(&self, plan: &Plan, service: ServiceId, edges: &ServiceEdges, edge: EdgeId) -> bool
+    fn has_one_spoke(
+        &self,
+        plan: &Plan,
+        service: ServiceId,
+        edges: &ServiceEdges,
+        edge: EdgeId,
+    ) -> bool
         requires limits { IsWithinLimits plan.now }
         requires edges { AreEdgesOf plan.now service edges.now }
         requires edge { edge.0 < 64 }
