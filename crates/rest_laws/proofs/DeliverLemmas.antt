@@ -112,7 +112,7 @@ up_steady plan me I place steady = record {
 }
 
 -- the phase of a session that is up
-up_phase : (p : Phase) → is_operational p ≡ true → p ≡ Operational
+pub up_phase : (p : Phase) → is_operational p ≡ true → p ≡ Operational
 up_phase Operational up = refl
 up_phase Initialized up = clash up
 up_phase OpenSent up = clash up
@@ -126,7 +126,7 @@ unfolding changes with_peering
 waits_not peer kept work at up event is = rw (at, is, up, Rattle.net_values.proofs.NumberLemmas.same_number peer.0) refl
 
 -- and nothing but that
-waits_put : (peer : EdgeId) (kept now : Peering) (work : Work) → work.edge.peering peer.0 ≡ Some kept → is_operational now.session.phase ≡ is_operational kept.session.phase
+pub waits_put : (peer : EdgeId) (kept now : Peering) (work : Work) → work.edge.peering peer.0 ≡ Some kept → is_operational now.session.phase ≡ is_operational kept.session.phase
     → HasPut work.edge (changes (with_peering peer (Some now)) work).edge
 unfolding changes with_peering
 waits_put peer kept now work at same = record { me = refl; wires = refl; bits = refl; ends = refl; ups = λ k. up k; labels = refl; chosen = refl; priorities = refl } where
@@ -142,9 +142,9 @@ down_not {b} off on = clash (sym off ∙ on)
 -- ---- what is heard
 
 -- a message about a wire has a level
-record HasLevel (plan : Plan) (edges : ℕ → EdgeState) (from me : EdgeId) (message : Message) : Type 0 where
-  least : ℕ
-  is : level_of plan edges from.0 me.0 message ≡ Some least
+pub record HasLevel (plan : Plan) (edges : ℕ → EdgeState) (from me : EdgeId) (message : Message) : Type 0 where
+  pub least : ℕ
+  pub is : level_of plan edges from.0 me.0 message ≡ Some least
 
 module _ (plan : Plan) (checked : IsChecked plan) (edges : ℕ → EdgeState) (from me : EdgeId) where
   has_level : (wire : WireId) (row : WirePlan) (message : Message) (saying : Saying) → wire_row plan wire ≡ Some row → joins from.0 me.0 row.path ≡ true → saying_of message ≡ Some saying
@@ -160,7 +160,7 @@ module _ (plan : Plan) (checked : IsChecked plan) (edges : ℕ → EdgeState) (f
       }
 
   -- a message has a level, or an edge does nothing on it
-  class_of : (other : Peers) (m : Message) → IsSaidAcross other m → TellsFirm plan from.0 me.0 m → HasLevel plan edges from me m ⊎ ((work : Work) → acts_on plan taken_all from m work ≡ work)
+  pub class_of : (other : Peers) (m : Message) → IsSaidAcross other m → TellsFirm plan from.0 me.0 m → HasLevel plan edges from me m ⊎ ((work : Work) → acts_on plan taken_all from m work ≡ work)
   class_of other (Initialization id params) said tells = inr (λ work. refl)
   class_of other (KeepAlive id) said tells = inr (λ work. refl)
   class_of other (Notification id code status (Some fec)) said tells =
@@ -188,7 +188,7 @@ module _ (plan : Plan) (checked : IsChecked plan) (edges : ℕ → EdgeState) (f
       same_row (sym w_is ∙ (ap (wire_row plan) (sym near.wire_is ∙ (ap (λ (p : EndPlace). p.wire) place ∙ far.wire_is)) ∙ x_is))
 
   -- it goes by the plan
-  goes_by_plan : (edge : EdgeState) → edge.me ≡ me → (m : Message) → TellsFirm plan from.0 me.0 m → IsMappingTaken plan me.0 from.0 m → IsByPlan plan edge from m
+  pub goes_by_plan : (edge : EdgeState) → edge.me ≡ me → (m : Message) → TellsFirm plan from.0 me.0 m → IsMappingTaken plan me.0 from.0 m → IsByPlan plan edge from m
   goes_by_plan edge at (LabelMapping id fec label status points) tells taken =
       subst (λ (k : EdgeId). TellsOfWire plan from.0 k.0 fec (told_with fec status points) × ((place : EndPlace) → option_and_then (end_named plan k from) fec.pw_id ≡ Some place
       → takes_content plan k place (told_with fec status points) ≡ true)) (sym at) (tells, taken)
@@ -204,7 +204,7 @@ module _ (plan : Plan) (checked : IsChecked plan) (edges : ℕ → EdgeState) (f
   goes_by_plan edge at m tells taken = tt
 
   -- and so does what the edge holds
-  holds_by_plan : (edge : EdgeState) → edge.me ≡ me → TellsOwn plan me.0 edge → HoldsByPlan plan edge from
+  pub holds_by_plan : (edge : EdgeState) → edge.me ≡ me → TellsOwn plan me.0 edge → HoldsByPlan plan edge from
   holds_by_plan edge at tells =
       subst (λ (k : EdgeId). (wire : WireId) (row : WirePlan) → wire_row plan wire ≡ Some row → joins from.0 k.0 row.path ≡ true → FarTells plan row from.0 k.0 (edge.ends wire.0 from.0).remote) (sym at)
       (λ wire row is joined. (tells wire.0 from.0).far row is joined)
@@ -257,7 +257,7 @@ end_same : {A : Type 0} (xs : List A) → xs ++ [] ≡ xs
 end_same [] = refl
 end_same (x ∷ xs) = λ i. x ∷ end_same xs i
 
-weighs_some : (few : ℕ) (o : Option ℕ) → 0 < weigh_one few o
+pub weighs_some : (few : ℕ) (o : Option ℕ) → 0 < weigh_one few o
 weighs_some few None = omega arith
 weighs_some few (Some level) = heavy_some few (left_above level)
 

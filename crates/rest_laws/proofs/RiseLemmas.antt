@@ -375,11 +375,14 @@ mapped_length (level ∷ levels) = ap suc (mapped_length levels)
 enough_left : (a b c d : ℕ) → a ≡ b → b ≤ c → c ≤ d → a ≤ d
 enough_left a b c d is one other = omega (arith, is, one, other)
 
-pub hearing_lightens : HearingLightens
-hearing_lightens plan checked edges me peer message least few old new level_is puts enough =
-    lighter few (left_above least) (map left_above puts.levels)
-    (enough_left (length (map left_above puts.levels)) (length puts.levels) (put_most plan me message) few (mapped_length puts.levels) puts.few enough)
-    (all_fewer least puts.levels low puts.above)
+-- what is put has fewer levels above it, and is no more than so many messages
+pub hearing_fewer : (plan : Plan) → IsChecked plan → (edges : ℕ → EdgeState) (me peer : EdgeId) (message : Message) (least : ℕ) (old new : List Effect) → level_of plan edges peer.0 me.0 message ≡ Some least
+    → (puts : PutsAbove plan edges me.0 least (put_most plan me message) old new)
+    → AllByRecursion (λ n. n < left_above least) (map left_above puts.levels) × (length (map left_above puts.levels) ≤ put_most plan me message)
+hearing_fewer plan checked edges me peer message least old new level_is puts = (
+  all_fewer least puts.levels low puts.above,
+  enough_left (length (map left_above puts.levels)) (length puts.levels) (put_most plan me message) (put_most plan me message) (mapped_length puts.levels) puts.few (itself (put_most plan me message)),
+)
   where
     names : NamesEnd plan edges peer me message least
     names = names_end plan checked edges peer me message least level_is
@@ -392,3 +395,15 @@ hearing_lightens plan checked edges me peer message least few old new level_is p
         (level_below edges names.place.wire.0 names.here.row peer.0 me.0 names.saying
         (spoken_few plan checked names.place.wire names.here.row peer.0 me.0 names.here.is (sym (joins_turned names.here.row.path me.0 peer.0) ∙ joined))
         (spoken_few plan checked names.place.wire names.here.row me.0 peer.0 names.here.is joined))
+
+    itself : (n : ℕ) → n ≤ n
+    itself n = omega arith
+
+pub hearing_lightens : HearingLightens
+hearing_lightens plan checked edges me peer message least few old new level_is puts enough =
+    let fewer = hearing_fewer plan checked edges me peer message least old new level_is puts in
+    lighter few (left_above least) (map left_above puts.levels)
+    (both (length (map left_above puts.levels)) (put_most plan me message) few fewer.1 enough) fewer.0
+  where
+    both : (a b c : ℕ) → a ≤ b → b ≤ c → a ≤ c
+    both a b c one other = omega (arith, one, other)

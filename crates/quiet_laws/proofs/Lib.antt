@@ -1,0 +1,7 @@
+pub mod CostLemmas
+pub mod FallLemmas
+pub mod NetworkLemmas
+pub mod RunLemmas
+pub mod SpelledLemmas
+pub mod SumLemmas
+pub mod ToldLemmas
