@@ -53,6 +53,7 @@ use Rattle.flight_laws.proofs.RuledRunLemmas.{run_ruled}
 use Rattle.flight_laws.proofs.RunLemmas.{run_ordered}
 use Rattle.flight_laws.proofs.SteadyLemmas.{steady_rows}
 use Rattle.flight_laws.proofs.WorksLemmas.{works_begin, works_kept, works_steady}
+use Rattle.flood_laws.specs.Deliveries.{is_delivery}
 use Rattle.rest_laws.specs.Delivered.{weight}
 use Rattle.rest_laws.specs.Rest.{RestsWithin, RunsComeToRest, all_deliver, delivers}
 use Rattle.rest_laws.specs.Rises.{most_put, said_count}
@@ -436,7 +437,15 @@ module _ (plan : Plan) (events : List Event) (run : IsRun plan events) (from to 
 
 -- ---- deliveries alone
 
-pub measure_of : (plan : Plan) (events : List Event) → IsRun plan events → ℕ
+-- an event that is no idle delivery speaks of the plan
+pub delivers_planned : (plan : Plan) (events : List Event) → IsRun plan events → (event : Event) → delivers (network_after plan events) event ≡ true → IsEventOf plan event × (is_delivery event ≡ true)
+delivers_planned plan events run (Deliver from to count) does = (planned_of plan events run from to count up, refl) where
+  up : stands (network_after plan events) to.0 from.0 ≡ true
+  up = first_holds (stands (network_after plan events) to.0 from.0) (not (is_drained_pipe (network_after plan events) from.0 to.0) || not (stands (network_after plan events) from.0 to.0))
+      (first_holds (is_deliverable (network_after plan events) from.0 to.0) (not (count == 0)) does)
+delivers_planned plan events run event does = clash does
+
+abbrev pub measure_of : (plan : Plan) (events : List Event) → IsRun plan events → ℕ
 measure_of plan events run = measure plan (network_after plan events) (messages_of plan (network_after plan events) (run_ordered plan events run))
 
 run_further : (plan : Plan) (events : List Event) (event : Event) → IsRun plan events → IsEventOf plan event → IsRun plan (events ++ event ∷ [])
@@ -447,13 +456,12 @@ run_further plan events event run planned = record {
 }
 
 -- one delivery takes away one at least
-record Further (plan : Plan) (events : List Event) (run : IsRun plan events) (event : Event) : Type 0 where
-  later : IsRun plan (events ++ event ∷ [])
-  state : network_after plan (events ++ event ∷ []) ≡ (step plan (network_after plan events) event).state
-  less : measure_of plan (events ++ event ∷ []) later < measure_of plan events run
+pub record Further (plan : Plan) (events : List Event) (run : IsRun plan events) (event : Event) : Type 0 where
+  pub later : IsRun plan (events ++ event ∷ [])
+  pub state : network_after plan (events ++ event ∷ []) ≡ (step plan (network_after plan events) event).state
+  pub less : measure_of plan (events ++ event ∷ []) later < measure_of plan events run
 
-further : (plan : Plan) (events : List Event) (run : IsRun plan events) (event : Event) → delivers (network_after plan events) event ≡ true → Further plan events run event
-unfolding measure_of
+pub further : (plan : Plan) (events : List Event) (run : IsRun plan events) (event : Event) → delivers (network_after plan events) event ≡ true → Further plan events run event
 further plan events run (Deliver from to count) does = record {
   later = next;
   state = state;
@@ -515,7 +523,6 @@ pub runs_come_to_rest : RunsComeToRest
 runs_come_to_rest plan events run = record { most = measure_of plan events run; ends = rests_within plan events run }
 
 pub runs_rest_by_measure : RunsRestByMeasure
-unfolding measure_of
 runs_rest_by_measure plan events run = record {
   messages = messages_of plan (network_after plan events) (run_ordered plan events run);
   on_way = ways_of plan (network_after plan events) (run_ordered plan events run);
@@ -540,7 +547,7 @@ module _ (plan : Plan) (network : NetworkState) (ordered : IsOrdered plan networ
         (all_ready (ends_at plan a b) (messages_of plan network ordered a b) fit (ways_of plan network ordered a b gone).said) (sym (ways a b gone).octets ∙ (ways_of plan network ordered a b gone).octets) in
         ap (λ (ms : List Message). cond (stands network b a) (weight plan network.edges a b (few_of plan) ms + length (network.pipes a b)) 0) same
 
-  measure_same : measure plan network messages ≡ measure plan network (messages_of plan network ordered)
+  pub measure_same : measure plan network messages ≡ measure plan network (messages_of plan network ordered)
   measure_same = same_sums _ _ (length plan.edges) (λ a. same_sums _ _ (length plan.edges) (λ b. ap (λ (f : ℕ). end_rank ((network.edges a).peering b) * state_worth plan + f) (flight_same a b)))
 
 pub deliveries_lower : DeliveriesLower

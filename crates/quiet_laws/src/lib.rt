@@ -4,4 +4,4 @@
 
 mod laws;
 
-pub use laws::{deliveries_lower, runs_come_to_rest, runs_rest_by_measure};
+pub use laws::{deliveries_lower, runs_come_to_rest, runs_rest_by_measure, runs_settle_by_measure};
