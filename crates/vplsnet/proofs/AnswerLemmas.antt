@@ -22,7 +22,7 @@ use Rattle.vplsnet.specs.declared.audit_rule.AuditRule.TheVariants as rule
 use Rattle.vplsnet.specs.declared.outcome.Outcome.{Outcome}
 use Rattle.vplsnet.specs.declared.outcome.Outcome.TheVariants.{Done, Usage, ReadFault, WriteFault, TooLong, ScenarioRefused, NoCircuit, CaptureRefused, ScriptRefused, AuditRefused, Stopped, DecodeRefused, Unfinished, NoMemory}
 use Rattle.vplsnet.specs.Answers.{CallsFor, Completes, Finishes, IsCutShort, IsEndOf, IsJudged, IsMade, IsRefused, IsSoundFile, IsSoundOutcome, IsTooLong, IsWholeTaken, MakesAnswer, MakesRun, PassesIfReport, SaysOutcome, run_text}
-use Rattle.vplsnet.specs.Around.{Files, Around, HasWriteFault, IsUntouched, Has, TellsFile}
+use Rattle.vplsnet.specs.Around.{Files, Around, HasWriteFault, IsUntouched, Has, OfFiles, TellsFile}
 use Rattle.vplsnet.specs.Asked.{Asked, Replay, Tables, Capture, Decode, Rehearse, Migrate, Discover, Switchover, Audit}
 use Rattle.vplsnet.specs.Audit.{stop_of}
 use Rattle.vplsnet.specs.Capture.{lacks_circuit}
@@ -35,6 +35,7 @@ use Rattle.vplsnet.specs.RunOver.{outcome_by, run_of}
 use Rattle.vplsnet.specs.ScenarioRun.{IsScenarioRun, whole_run}
 use Rattle.vplsnet.specs.StreamText.{largest_pdu, outcome_of_ending}
 use Rattle.vplsnet.specs.Writing.{EndsMigration, EndsRun, EndsStream, EndsText, GivesUp, WritesNone}
+use Rattle.vplsnet.proofs.AgreeLemmas.{longer_as}
 use Rattle.vplsnet.proofs.ReportLemmas.{passes_by}
 use Rattle.vplsnet.proofs.ScenarioFileLemmas.{refused_first}
 
@@ -163,18 +164,12 @@ stream_not_had around file network outcome why untouched = refused_answers aroun
   first : ComesTo (Has around.files) (Decode file) (Reads (record { name = file; limit = stream_limit }))
   first = record { read = []; are_read = tt; is_next = refl }
 
-  longer_of : (files : Files) (named : List ℕ) (limit : ℕ) → named ≡ file → limit ≡ stream_limit → IfSome files (λ held. IsLonger stream_limit (held file))
-      → IfSome files (λ held. IsLonger limit (held named))
-  longer_of None named limit is_name is_limit longer = tt
-  longer_of (Some held) named limit is_name is_limit longer =
-      subst (λ (n : List ℕ). IsLonger limit (held n)) (sym is_name) (subst (λ (l : ℕ). IsLonger l (held file)) (sym is_limit) longer)
-
   by : (o : Outcome) → IsNotHad around.files around.shelf_before around.shelf_after file stream_limit o → IsRefused around.files around.shelf_before around.shelf_after (Decode file) o
   by ReadFault why = record { wanted = record { name = file; limit = stream_limit }; come = first; cause = why }
   by (TooLong named limit) why = record {
     come = subst (λ (w : Wanted). ComesTo (Has around.files) (Decode file) (Reads w))
         (sym (ap (λ (n : List ℕ). record { name = n; limit = limit }) why.0 ∙ ap (λ (l : ℕ). record { name = file; limit = l }) why.1)) first;
-    longer = longer_of around.files named limit why.0 why.1 why.2;
+    longer = longer_as around.files named file limit stream_limit why.0 why.1 why.2;
   }
   by NoMemory why = tt
   by Done why = absurd why
@@ -317,16 +312,15 @@ one_next (Audit file report) (octets ∷ read) next other a b =
 
 -- a told file has one content
 same_octets : (files : Files) (name octets other : List ℕ) → TellsFile files name octets → Has files name other → octets ≡ other
-same_octets None name octets other tells told = absurd (cc (tells.told))
-same_octets (Some held) name octets other tells told =
-    let same : held ≡ tells.held = cc (tells.told) in
-    let both : Some octets ≡ Some other = sym tells.has ∙ (sym (ap (λ (h : List ℕ → Option (List ℕ)). h name) same) ∙ told) in
+same_octets files name octets other tells has =
+    let both : Some octets ≡ Some other = sym tells.has ∙ has tells.held tells.agrees in
     cc (both)
 
-longer_octets : (files : Files) (name octets : List ℕ) (limit : ℕ) → TellsFile files name octets → IfSome files (λ held. IsLonger limit (held name)) → limit < length octets
-longer_octets None name octets limit tells longer = absurd (cc (tells.told))
-longer_octets (Some held) name octets limit tells longer =
-    let same : octets ≡ longer.bytes = same_octets (Some held) name octets longer.bytes tells longer.held in
+longer_octets : (files : Files) (name octets : List ℕ) (limit : ℕ) → TellsFile files name octets → OfFiles files (λ held. IsLonger limit (held name)) → limit < length octets
+longer_octets files name octets limit tells all =
+    let longer = all tells.held tells.agrees in
+    let both : Some octets ≡ Some longer.bytes = sym tells.has ∙ longer.held in
+    let same : octets ≡ longer.bytes = cc (both) in
     omega (arith, ap length same, longer.longer)
 
 -- one more file is read

@@ -16,9 +16,10 @@ use Rattle.pcap_file.specs.Records.{IsCapture, IsPacketRecord, PacketRecord, rec
 use Rattle.vplsnet.specs.declared.outcome.Outcome.{Outcome}
 use Rattle.vplsnet.specs.declared.outcome.Outcome.TheVariants.{Done, Usage, ReadFault, WriteFault, TooLong, ScenarioRefused, NoCircuit, CaptureRefused, ScriptRefused, AuditRefused, Stopped, DecodeRefused, Unfinished, NoMemory}
 use Rattle.vplsnet.specs.Around.{Files, Has}
-use Rattle.vplsnet.specs.Captures.{AreCaptures, FailsToPlay, GainsPlayed, HasFrames, HasPlayed, IsNoCapture, IsToldAs}
-use Rattle.vplsnet.specs.Files.{IsNotHad}
+use Rattle.vplsnet.specs.Captures.{AreCaptures, FailsToPlay, GainsPlayed, HasCaptureFault, HasFrames, HasPlayed, IsNoCapture, IsToldAs}
+use Rattle.vplsnet.specs.Files.{IsLonger, IsNotHad}
 use Rattle.vplsnet.specs.Inputs.{capture_limit, played, played_by}
+use Rattle.vplsnet.proofs.AgreeLemmas.{Within, has_within, of_within}
 
 -- ---- one file
 
@@ -120,6 +121,21 @@ played_both files names more captures gained one two = record {
   are = captures_both files names more one.read two.read captures gained one.are two.are;
 }
 
+-- what was read by some answers was read by all of them
+captures_within : (some all : Files) (names read : List (List ℕ)) (captures : List (List (List ℕ))) → Within some all → AreCaptures some names read captures → AreCaptures all names read captures
+captures_within some all [] [] [] within are = tt
+captures_within some all [] [] (frames ∷ captures) within are = absurd are
+captures_within some all [] (octets ∷ read) captures within are = absurd are
+captures_within some all (name ∷ names) [] captures within are = absurd are
+captures_within some all (name ∷ names) (octets ∷ read) [] within are = absurd are
+captures_within some all (name ∷ names) (octets ∷ read) (frames ∷ captures) within are = (
+  record { has = has_within some all name octets within are.0.has; fits = are.0.fits; is = are.0.is },
+  captures_within some all names read captures within are.1,
+)
+
+pub played_within : (some all : Files) (names : List (List ℕ)) (captures : List (List (List ℕ))) → Within some all → HasPlayed some names captures → HasPlayed all names captures
+played_within some all names captures within played = record { read = played.read; are = captures_within some all names played.read captures within played.are }
+
 played_none : (files : Files) → HasPlayed files [] []
 played_none files = record { read = []; are = tt }
 
@@ -146,23 +162,26 @@ fails_want files before after name outcome want = fails_one files before after n
 
 pub ruleset add_steps = (gains_one, fails_one, fails_want)
 
+fault_within : (some all : Files) (name : List ℕ) (fault : CaptureFault) → Within some all → HasCaptureFault some name fault → HasCaptureFault all name fault
+fault_within some all name fault within has = record { octets = has.octets; has = has_within some all name has.octets within has.has; fits = has.fits; first = has.first }
+
 -- a fault that was counted later was counted
-no_capture_later : (files : Files) (before between after : List ℕ → ℕ) (name : List ℕ) (outcome : Outcome) → NeverFall before between → IsNoCapture files between after name outcome
+no_capture_later : (files here : Files) (before between after : List ℕ → ℕ) (name : List ℕ) (outcome : Outcome) → Within here files → NeverFall before between → IsNoCapture here between after name outcome
     → IsNoCapture files before after name outcome
-no_capture_later files before between after name ReadFault later why = rose_later (before name) (between name) (after name) (later name) why
-no_capture_later files before between after name (TooLong named limit) later why = why
-no_capture_later files before between after name (CaptureRefused named fault) later why = why
-no_capture_later files before between after name NoMemory later why = tt
-no_capture_later files before between after name Done later why = absurd why
-no_capture_later files before between after name Usage later why = absurd why
-no_capture_later files before between after name WriteFault later why = absurd why
-no_capture_later files before between after name (ScenarioRefused fault) later why = absurd why
-no_capture_later files before between after name (NoCircuit circuit) later why = absurd why
-no_capture_later files before between after name (ScriptRefused line word) later why = absurd why
-no_capture_later files before between after name (AuditRefused line rule) later why = absurd why
-no_capture_later files before between after name (Stopped stop) later why = absurd why
-no_capture_later files before between after name (DecodeRefused fault) later why = absurd why
-no_capture_later files before between after name (Unfinished at) later why = absurd why
+no_capture_later files here before between after name ReadFault within later why = rose_later (before name) (between name) (after name) (later name) why
+no_capture_later files here before between after name (TooLong named limit) within later why = (why.0, why.1, of_within (λ held. IsLonger capture_limit (held name)) here files within why.2)
+no_capture_later files here before between after name (CaptureRefused named fault) within later why = (why.0, fault_within here files name fault within why.1, why.2)
+no_capture_later files here before between after name NoMemory within later why = tt
+no_capture_later files here before between after name Done within later why = absurd why
+no_capture_later files here before between after name Usage within later why = absurd why
+no_capture_later files here before between after name WriteFault within later why = absurd why
+no_capture_later files here before between after name (ScenarioRefused fault) within later why = absurd why
+no_capture_later files here before between after name (NoCircuit circuit) within later why = absurd why
+no_capture_later files here before between after name (ScriptRefused line word) within later why = absurd why
+no_capture_later files here before between after name (AuditRefused line rule) within later why = absurd why
+no_capture_later files here before between after name (Stopped stop) within later why = absurd why
+no_capture_later files here before between after name (DecodeRefused fault) within later why = absurd why
+no_capture_later files here before between after name (Unfinished at) within later why = absurd why
 
 -- of the files that are played the first ones were read, and these are left
 pub record IsPlayedTo (files : Files) (names rest : List (List ℕ)) (captures : List (List (List ℕ))) : Type 0 where
@@ -178,15 +197,16 @@ pub played_at : (commands : List Command) (i : ℕ) (d : Command) → i < length
 played_at commands i d within = at_drop_more played commands i d within
 
 -- those of one more command were read
-pub played_more : (files here : Files) (names : List (List ℕ)) (commands : List Command) (i : ℕ) (d : Command) (captures now : List (List (List ℕ))) → here ≡ files → i < length commands
-    → IsPlayedTo files names (played (drop i commands)) captures → GainsPlayed here (played_by (slice_index_or commands i d)) captures now → IsPlayedTo files names (played (drop (i + 1) commands)) now
-played_more files here names commands i d captures now same within so_far gains =
+pub played_more : (files past here : Files) (names : List (List ℕ)) (commands : List Command) (i : ℕ) (d : Command) (captures now : List (List (List ℕ))) → Within past files → Within here files → i < length commands
+    → IsPlayedTo past names (played (drop i commands)) captures → GainsPlayed here (played_by (slice_index_or commands i d)) captures now → IsPlayedTo files names (played (drop (i + 1) commands)) now
+played_more files past here names commands i d captures now earlier later within so_far gains =
     let more = played_by (slice_index_or commands i d) in
-    let there : HasPlayed files more gains.gained = subst (λ (f : Files). HasPlayed f more gains.gained) same gains.played in
+    let had : HasPlayed files so_far.had captures = played_within past files so_far.had captures earlier so_far.played in
+    let there : HasPlayed files more gains.gained = played_within here files more gains.gained later gains.played in
     record {
       had = so_far.had ++ more;
       split = so_far.split ∙ (ap (λ (l : List (List ℕ)). so_far.had ++ l) (played_at commands i d within) ∙ sym (append_assoc so_far.had more (played (drop (i + 1) commands))));
-      played = subst (λ (l : List (List (List ℕ))). HasPlayed files (so_far.had ++ more) l) (sym gains.adds) (played_both files so_far.had more captures gains.gained so_far.played there);
+      played = subst (λ (l : List (List (List ℕ))). HasPlayed files (so_far.had ++ more) l) (sym gains.adds) (played_both files so_far.had more captures gains.gained had there);
       short = subst (λ (l : List (List (List ℕ))). All (All IsFrame) l) (sym gains.adds) (All-append (All IsFrame) captures gains.gained so_far.short gains.short);
     }
 
@@ -199,12 +219,11 @@ played_end files names commands i captures all so_far =
     subst (λ (l : List (List ℕ)). HasPlayed files l captures) (sym same) so_far.played
 
 -- one was not had
-pub played_stopped : (files here : Files) (before between after : List ℕ → ℕ) (names : List (List ℕ)) (commands : List Command) (i : ℕ) (command : Command) (captures : List (List (List ℕ))) (outcome : Outcome)
-    → here ≡ files → NeverFall before between → i < length commands → command ≡ slice_index_or commands i command → IsPlayedTo files names (played (drop i commands)) captures
-    → FailsToPlay here between after (played_by command) outcome → FailsToPlay files before after names outcome
-played_stopped files here before between after names commands i command captures outcome same later within is so_far fails =
+pub played_stopped : (files past here : Files) (before between after : List ℕ → ℕ) (names : List (List ℕ)) (commands : List Command) (i : ℕ) (command : Command) (captures : List (List (List ℕ))) (outcome : Outcome)
+    → Within past files → Within here files → NeverFall before between → i < length commands → command ≡ slice_index_or commands i command
+    → IsPlayedTo past names (played (drop i commands)) captures → FailsToPlay here between after (played_by command) outcome → FailsToPlay files before after names outcome
+played_stopped files past here before between after names commands i command captures outcome earlier later fall within is so_far there =
     let rest = played (drop (i + 1) commands) in
-    let there : FailsToPlay files between after (played_by command) outcome = subst (λ (f : Files). FailsToPlay f between after (played_by command) outcome) same fails in
     let front : played (drop i commands) ≡ played_by command ++ rest = played_at commands i command within ∙ ap (λ (c : Command). played_by c ++ rest) (sym is) in
     let left : played (drop i commands) ≡ there.had ++ there.name ∷ (there.later ++ rest) =
     front ∙ (ap (λ (l : List (List ℕ)). l ++ rest) there.split ∙ append_assoc there.had (there.name ∷ there.later) rest) in
@@ -214,9 +233,23 @@ played_stopped files here before between after names commands i command captures
       later = there.later ++ rest;
       split = so_far.split ∙ (ap (λ (l : List (List ℕ)). so_far.had ++ l) left ∙ sym (append_assoc so_far.had there.had (there.name ∷ (there.later ++ rest))));
       captures = captures ++ there.captures;
-      played = played_both files so_far.had there.had captures there.captures so_far.played there.played;
-      why = no_capture_later files before between after there.name outcome later there.why;
+      played = played_both files so_far.had there.had captures there.captures (played_within past files so_far.had captures earlier so_far.played)
+          (played_within here files there.had there.captures later there.played);
+      why = no_capture_later files here before between after there.name outcome later fall there.why;
     }
+
+-- the same by some answers and by all of them
+pub fails_within : (files here : Files) (before after : List ℕ → ℕ) (names : List (List ℕ)) (outcome : Outcome) → Within here files → FailsToPlay here before after names outcome
+    → FailsToPlay files before after names outcome
+fails_within files here before after names outcome within fails = record {
+  had = fails.had;
+  name = fails.name;
+  later = fails.later;
+  split = fails.split;
+  captures = fails.captures;
+  played = played_within here files fails.had fails.captures within fails.played;
+  why = no_capture_later files here before before after fails.name outcome within (λ name. omega arith) fails.why;
+}
 
 pub never_later : (before between after : List ℕ → ℕ) → NeverFall before between → NeverFall between after → NeverFall before after
 never_later before between after one two = λ name. let a = one name in let b = two name in omega arith

@@ -1,3 +1,4 @@
+pub mod AgreeLemmas
 pub mod SeenLemmas
 pub mod AnswerLemmas
 pub mod AuditLemmas

@@ -3,6 +3,7 @@ use Rattle.std.proofs.Common.{◌≡◌, ◌++◌, ◌∙◌, ℕ, List, [], ◌
 use Rattle.std.proofs.lemmas.List.{append-nil}
 use Rattle.std.specs.Fmt.{decimal}
 use Rattle.net_base.specs.declared.plan.Plan.{Plan}
+use Rattle.net_base.specs.outside.Outside.{Agrees}
 use Rattle.net_base.specs.declared.trace.entry.Entry.{Entry}
 use Rattle.network_model.specs.State.{NetworkState}
 use Rattle.discovery_net.specs.Acts.{Course}
@@ -41,13 +42,17 @@ use Rattle.vplsnet.proofs.AnswerLemmas.{one_next}
 
 -- ---- the work of a command is one
 
+-- in these files the name has these octets
+abbrev IsHeld : (List ℕ → Option (List ℕ)) → List ℕ → List ℕ → Type 0
+IsHeld held name octets = held name ≡ Some octets
+
 one_holds : (held : List ℕ → Option (List ℕ)) (name octets other : List ℕ) → held name ≡ Some octets → held name ≡ Some other → octets ≡ other
 one_holds held name octets other one two =
     let both : Some octets ≡ Some other = sym one ∙ two in
     cc (both)
 
-works_same : (held : List ℕ → Option (List ℕ)) (asked : Asked) (before read others : List (List ℕ)) (work other : CommandWork) → AreReadNext (Has (Some held)) asked before read
-    → IsNextInput asked (before ++ read) (Works work) → AreReadNext (Has (Some held)) asked before others → IsNextInput asked (before ++ others) (Works other) → Works work ≡ Works other
+works_same : (held : List ℕ → Option (List ℕ)) (asked : Asked) (before read others : List (List ℕ)) (work other : CommandWork) → AreReadNext (IsHeld held) asked before read
+    → IsNextInput asked (before ++ read) (Works work) → AreReadNext (IsHeld held) asked before others → IsNextInput asked (before ++ others) (Works other) → Works work ≡ Works other
 works_same held asked before [] [] work other are is also comes =
     one_next asked before (Works work) (Works other) (subst (λ (l : List (List ℕ)). IsNextInput asked l (Works work)) (append-nil before) is)
     (subst (λ (l : List (List ℕ)). IsNextInput asked l (Works other)) (append-nil before) comes)
@@ -66,24 +71,33 @@ works_same held asked before (octets ∷ read) (same ∷ others) work other are 
     one_holds held are.0.wanted.name same octets (subst (λ (w : Wanted). held w.name ≡ Some same) file also.0.holds) are.0.holds in
     works_same held asked (before ++ octets ∷ []) read others work other are.1
     (subst (λ (l : List (List ℕ)). IsNextInput asked l (Works work)) (sym (append_assoc before (octets ∷ []) read)) is)
-    (subst (λ (o : List ℕ). AreReadNext (Has (Some held)) asked (before ++ o ∷ []) others) equal also.1)
+    (subst (λ (o : List ℕ). AreReadNext (IsHeld held) asked (before ++ o ∷ []) others) equal also.1)
     (subst (λ (l : List (List ℕ)). IsNextInput asked l (Works other)) (sym (append_assoc before (octets ∷ []) others))
     (subst (λ (o : List ℕ). IsNextInput asked (before ++ o ∷ others) (Works other)) equal comes))
 
 -- files with the same octets
-all_same : (held same : List ℕ → Option (List ℕ)) (asked : Asked) (before read : List (List ℕ)) → ((name : List ℕ) → held name ≡ same name) → AreReadNext (Has (Some same)) asked before read
-    → AreReadNext (Has (Some held)) asked before read
+all_same : (held same : List ℕ → Option (List ℕ)) (asked : Asked) (before read : List (List ℕ)) → ((name : List ℕ) → held name ≡ same name) → AreReadNext (IsHeld same) asked before read
+    → AreReadNext (IsHeld held) asked before read
 all_same held same asked before [] equal are = tt
 all_same held same asked before (octets ∷ read) equal are = (
   record { wanted = are.0.wanted; next = are.0.next; holds = equal are.0.wanted.name ∙ are.0.holds; fits = are.0.fits },
   all_same held same asked (before ++ octets ∷ []) read equal are.1,
 )
 
-told_come : (files : Files) (held : List ℕ → Option (List ℕ)) (asked : Asked) (next : Next) → files ≡ Some held → ComesTo (Has files) asked next → ComesTo (Has (Some held)) asked next
-told_come files held asked next told come = subst (λ (f : Files). ComesTo (Has f) asked next) told come
+-- what was read has these octets in all files with which the answers agree
+told_read : (files : Files) (held : List ℕ → Option (List ℕ)) (asked : Asked) (before read : List (List ℕ)) → Agrees held files → AreReadNext (Has files) asked before read
+    → AreReadNext (IsHeld held) asked before read
+told_read files held asked before [] agrees are = tt
+told_read files held asked before (octets ∷ read) agrees are = (
+  record { wanted = are.0.wanted; next = are.0.next; holds = are.0.holds held agrees; fits = are.0.fits },
+  told_read files held asked (before ++ octets ∷ []) read agrees are.1,
+)
 
-one_work : (held same : List ℕ → Option (List ℕ)) (asked : Asked) (work other : CommandWork) → ((name : List ℕ) → held name ≡ same name) → ComesTo (Has (Some held)) asked (Works work)
-    → ComesTo (Has (Some same)) asked (Works other) → work ≡ other
+told_come : (files : Files) (held : List ℕ → Option (List ℕ)) (asked : Asked) (next : Next) → Agrees held files → ComesTo (Has files) asked next → ComesTo (IsHeld held) asked next
+told_come files held asked next agrees come = record { read = come.read; are_read = told_read files held asked [] come.read agrees come.are_read; is_next = come.is_next }
+
+one_work : (held same : List ℕ → Option (List ℕ)) (asked : Asked) (work other : CommandWork) → ((name : List ℕ) → held name ≡ same name) → ComesTo (IsHeld held) asked (Works work)
+    → ComesTo (IsHeld same) asked (Works other) → work ≡ other
 one_work held same asked work other equal one two =
     let both : Works work ≡ Works other = works_same held asked [] one.read two.read work other one.are_read one.is_next (all_same held same asked [] two.read equal two.are_read) two.is_next in
     cc (both)
@@ -235,11 +249,11 @@ texts_same asked (Report plan octets) text also network next outcome ending alik
 -- ---- two calls
 
 whole_taken : (held same : List ℕ → Option (List ℕ)) (one other : Around) (asked : Asked) (network next : Option NetLists) (outcome ending : Outcome) → HasOneText asked
-    → ((name : List ℕ) → held name ≡ same name) → EndAlike outcome ending → one.files ≡ Some held → other.files ≡ Some same → IsWholeTaken one asked network outcome
+    → ((name : List ℕ) → held name ≡ same name) → EndAlike outcome ending → Agrees held one.files → Agrees same other.files → IsWholeTaken one asked network outcome
     → IsWholeTaken other asked next ending → TakeOneText one other
 whole_taken held same one other asked network next outcome ending has equal alike told also first second =
-    let come : ComesTo (Has (Some held)) asked (Works first.made.work) = told_come one.files held asked (Works first.made.work) told first.made.come in
-    let comes : ComesTo (Has (Some same)) asked (Works second.made.work) = told_come other.files same asked (Works second.made.work) also second.made.come in
+    let come : ComesTo (IsHeld held) asked (Works first.made.work) = told_come one.files held asked (Works first.made.work) told first.made.come in
+    let comes : ComesTo (IsHeld same) asked (Works second.made.work) = told_come other.files same asked (Works second.made.work) also second.made.come in
     let work : first.made.work ≡ second.made.work = one_work held same asked first.made.work second.made.work equal come comes in
     let text : first.text ≡ second.text =
     texts_same asked first.made.work first.text second.text network next outcome ending alike
@@ -249,7 +263,7 @@ whole_taken held same one other asked network next outcome ending has equal alik
 
 pub one_text : OneInputOneText
 one_text asked held same one other Done Done has equal alike first second =
-    whole_taken held same one other asked first.network second.network Done Done has equal alike first.told second.told first.says second.says
+    whole_taken held same one other asked first.network second.network Done Done has equal alike first.agrees second.agrees first.says second.says
 one_text asked held same one other (Stopped reason) (Stopped stop) has equal alike first second =
-    whole_taken held same one other asked first.network second.network (Stopped reason) (Stopped stop) has equal alike first.told second.told first.says second.says
+    whole_taken held same one other asked first.network second.network (Stopped reason) (Stopped stop) has equal alike first.agrees second.agrees first.says second.says
 one_text asked held same one other outcome ending has equal alike first second = absurd alike

@@ -1,9 +1,9 @@
 -- What a scenario's file comes to.
-use Rattle.std.proofs.Common.{◌≡◌, ◌≤◌, ◌++◌, ◌∷◌, ◌∙◌, [], ℕ, List, Some, None, Ok, Err, Option, Result, IfSome, refl, ap, sym, subst, length, append_assoc, inl, inr}
+use Rattle.std.proofs.Common.{◌≡◌, ◌≤◌, ◌++◌, ◌∷◌, ◌∙◌, [], ℕ, List, Some, None, Ok, Err, Option, Result, IfErr, refl, ap, sym, subst, length, append_assoc, inl, inr}
 use Rattle.std.proofs.lemmas.List.{append-nil}
 use Rattle.std.proofs.lemmas.List.Elements.{All-nil}
 use Rattle.std.specs.List.{All}
-use Rattle.net_base.specs.outside.Outside.{NeverFall}
+use Rattle.net_base.specs.outside.Outside.{NeverFall, ReadCall}
 use Rattle.net_base.specs.plan.Planned.{IsFrame}
 use Rattle.text_lines.proofs.WrittenLemmas.{rose_later}
 use Rattle.command_text.specs.declared.scenario_fault.ScenarioFault.{ScenarioFault}
@@ -17,13 +17,16 @@ use Rattle.scenario_text.specs.Document.{document}
 use Rattle.vplsnet.specs.declared.outcome.Outcome.{Outcome}
 use Rattle.vplsnet.specs.declared.outcome.Outcome.TheVariants.{Done, Usage, ReadFault, WriteFault, TooLong, ScenarioRefused, NoCircuit, CaptureRefused, ScriptRefused, AuditRefused, Stopped, DecodeRefused, Unfinished, NoMemory}
 use Rattle.vplsnet.specs.Answers.{IsRefused}
-use Rattle.vplsnet.specs.Around.{Files, Has}
+use Rattle.vplsnet.specs.Around.{Files, Has, gained}
 use Rattle.vplsnet.specs.Asked.{Asked, Replay, Tables, Capture, Rehearse}
 use Rattle.vplsnet.specs.Capture.{lacks_circuit}
 use Rattle.vplsnet.specs.Captures.{AreCaptures, FailsToPlay, HasPlayed, IsCaptureFile}
-use Rattle.vplsnet.specs.Files.{IsLonger, IsNotHad}
+use Rattle.vplsnet.specs.Files.{IsNotHad}
 use Rattle.vplsnet.specs.Inputs.{AreReadNext, ComesTo, IsNextInput, IsNextOf, IsNextPlayed, IsNextRead, Next, Reads, Refuses, Run, Wanted, Works, capture_file, capture_limit, played, scenario_file, scenario_limit}
-use Rattle.vplsnet.specs.ScenarioFile.{HasAll, HasNoScenario, IsNoCircuit, IsNoScenario, IsOfFile, LacksSome, ReadsScenario, outcome_of_fault}
+use Rattle.vplsnet.specs.Reads.{GainsReads, IsCaptureRead, IsReadOf}
+use Rattle.vplsnet.specs.ScenarioFile.{HasAll, HasNoScenario, IsNoCircuit, IsNoScenario, IsOfFile, LacksCapture, LacksSome, ReadsScenario, outcome_of_fault}
+use Rattle.vplsnet.proofs.AgreeLemmas.{Within, has_within, longer_as, within_first, within_second}
+use Rattle.vplsnet.proofs.CaptureLemmas.{fails_within, played_within}
 
 -- ---- behind the captures that were read
 
@@ -123,14 +126,18 @@ comes_to files asked file octets scenario captures names rest next is split play
 -- ---- the file of a scenario
 
 -- all was read
-pub comes_to_run : (files here : Files) (asked : Asked) (file : List ℕ) (scenario work : Scenario) (captures : List (List (List ℕ))) → here ≡ files → ReadsScenario asked file
-    → IsOfFile files file scenario
-    → HasAll here asked scenario captures → work ≡ scenario → ComesTo (Has files) asked (Works (Run work captures))
-comes_to_run files here asked file scenario work captures kept reads of had same =
-    let all : HasAll files asked scenario captures = subst (λ (f : Files). HasAll f asked scenario captures) kept had in
-    let is : IsScenarioFile files asked file of.octets scenario = record { reads = reads; has = of.has; fits = of.fits; document_is = of.document_is; circuit = all.circuit } in
+pub comes_to_run : (asked : Asked) (file : List ℕ) (scenario work : Scenario) (captures : List (List (List ℕ))) (before between after : List ReadCall) → ReadsScenario asked file
+    → IsOfFile (gained before between) file scenario → HasAll (gained between after) asked scenario captures
+    → GainsReads (IsReadOf (record { name = file; limit = scenario_limit })) before between → GainsReads (IsCaptureRead (gained between after) asked scenario) between after
+    → work ≡ scenario → ComesTo (Has (gained before after)) asked (Works (Run work captures))
+comes_to_run asked file scenario work captures before between after reads of all one other same =
+    let files = gained before after in
+    let has : Has files file of.octets = has_within (gained before between) files file of.octets (within_first _ _ before between after one other) of.has in
+    let is : IsScenarioFile files asked file of.octets scenario = record { reads = reads; has = has; fits = of.fits; document_is = of.document_is; circuit = all.circuit } in
+    let had : HasPlayed files (played scenario.commands) captures =
+    played_within (gained between after) files (played scenario.commands) captures (within_second _ _ before between after one other) all.played in
     subst (λ (s : Scenario). ComesTo (Has files) asked (Works (Run s captures))) (sym same)
-    (comes_to files asked file of.octets scenario captures (played scenario.commands) [] (Works (Run scenario captures)) is (sym (append-nil (played scenario.commands))) all.played refl)
+    (comes_to files asked file of.octets scenario captures (played scenario.commands) [] (Works (Run scenario captures)) is (sym (append-nil (played scenario.commands))) had refl)
 
 -- behind the file alone
 comes_first : (files : Files) (asked : Asked) (file octets : List ℕ) (read : Result Scenario ScenarioFault) (next : Next) → ReadsScenario asked file → Has files file octets
@@ -166,14 +173,8 @@ refused_first files before after asked file (TooLong named limit) first refuses 
     record {
       come = subst (λ (w : Wanted). ComesTo (Has files) asked (Reads w)) (sym (ap (λ (n : List ℕ). record { name = n; limit = limit }) why.0 ∙ ap (λ (l : ℕ). record { name = file; limit = l }) why.1))
           (record { read = []; are_read = tt; is_next = first });
-      longer = longer_as files named limit file scenario_limit why.0 why.1 why.2;
+      longer = longer_as files named file limit scenario_limit why.0 why.1 why.2;
     }
-  where
-    longer_as : (files : Files) (named : List ℕ) (limit : ℕ) (name : List ℕ) (most : ℕ) → named ≡ name → limit ≡ most → IfSome files (λ held. IsLonger most (held name))
-        → IfSome files (λ held. IsLonger limit (held named))
-    longer_as None named limit name most is_name is_limit longer = tt
-    longer_as (Some held) named limit name most is_name is_limit longer =
-        subst (λ (n : List ℕ). IsLonger limit (held n)) (sym is_name) (subst (λ (l : ℕ). IsLonger l (held name)) (sym is_limit) longer)
 refused_first files before after asked file (ScenarioRefused fault) first refuses why = (
   record {
     read = why.0.octets ∷ [];
@@ -228,54 +229,83 @@ capture_refused files asked file octets name scenario before after named fault i
     (inr (fault, broken.first, refl))
 
 -- the scenario lacks the circuit, or a capture was not had
-pub lacks_some : (files here : Files) (before between after : List ℕ → ℕ) (asked : Asked) (file : List ℕ) (scenario : Scenario) (outcome : Outcome) → here ≡ files
+pub lacks_some : (start middle last : List ReadCall) (before between after : List ℕ → ℕ) (asked : Asked) (file : List ℕ) (scenario : Scenario) (outcome : Outcome)
+    → GainsReads (IsReadOf (record { name = file; limit = scenario_limit })) start middle → GainsReads (IsCaptureRead (gained middle last) asked scenario) middle last
     → NeverFall before between → ReadsScenario asked file
-    → IsOfFile files file scenario → LacksSome here between after asked scenario outcome → IsRefused files before after asked outcome
-lacks_some files here before between after asked file scenario outcome same later reads of lacks =
-    by outcome (subst (λ (f : Files). LacksSome f between after asked scenario outcome) same lacks)
-  where
-    file_is : lacks_circuit asked scenario.plan ≡ None → IsScenarioFile files asked file of.octets scenario
-    file_is circuit = record { reads = reads; has = of.has; fits = of.fits; document_is = of.document_is; circuit = circuit }
+    → IsOfFile (gained start middle) file scenario → LacksSome (gained middle last) between after asked scenario outcome → IsRefused (gained start last) before after asked outcome
+lacks_some start middle last before between after asked file scenario outcome one other later reads of lacks = by outcome (some_within outcome lacks) where
+  files : Files
+  files = gained start last
 
-    longer_of : (held : Files) (named : List ℕ) (limit : ℕ) (name : List ℕ) → named ≡ name → limit ≡ capture_limit → IfSome held (λ h. IsLonger capture_limit (h name))
-        → IfSome held (λ h. IsLonger limit (h named))
-    longer_of None named limit name is_name is_limit longer = tt
-    longer_of (Some h) named limit name is_name is_limit longer =
-        subst (λ (n : List ℕ). IsLonger limit (h n)) (sym is_name) (subst (λ (l : ℕ). IsLonger l (h name)) (sym is_limit) longer)
+  here : Files
+  here = gained middle last
 
-    by : (o : Outcome) → LacksSome files between after asked scenario o → IsRefused files before after asked o
-    by ReadFault lacks = record {
-      wanted = record { name = lacks.fails.name; limit = capture_limit };
-      come = capture_wanted files between after asked file of.octets scenario ReadFault (file_is lacks.circuit) lacks.fails;
-      cause = rose_later (before lacks.fails.name) (between lacks.fails.name) (after lacks.fails.name) (later lacks.fails.name) lacks.fails.why;
-    }
-    by (TooLong named limit) lacks =
-        let (is_name, is_limit, longer) = lacks.fails.why in
-        record {
-          come = subst (λ (w : Wanted). ComesTo (Has files) asked (Reads w))
-              (sym (ap (λ (n : List ℕ). record { name = n; limit = limit }) is_name ∙ ap (λ (l : ℕ). record { name = lacks.fails.name; limit = l }) is_limit))
-              (capture_wanted files between after asked file of.octets scenario (TooLong named limit) (file_is lacks.circuit) lacks.fails);
-          longer = longer_of files named limit lacks.fails.name is_name is_limit longer;
-        }
-    by (CaptureRefused named fault) lacks =
-        let (is_name, broken, some) = lacks.fails.why in (
-          subst (λ (n : List ℕ). ComesTo (Has files) asked (Refuses (CaptureRefused n fault))) (sym is_name)
-              (capture_refused files asked file of.octets named scenario between after named fault (file_is lacks.circuit) lacks.fails),
-          some,
-        )
-    by (NoCircuit circuit) lacks =
-        comes_first files asked file of.octets (Ok scenario) (Refuses (NoCircuit circuit)) reads of.has of.fits of.document_is
-        (subst (λ (o : Option (List ℕ)). IsNextOf o scenario [] (Refuses (NoCircuit circuit))) (sym lacks) refl)
-    by NoMemory lacks = tt
-    by Done lacks = absurd lacks
-    by Usage lacks = absurd lacks
-    by WriteFault lacks = absurd lacks
-    by (ScenarioRefused fault) lacks = absurd lacks
-    by (ScriptRefused line word) lacks = absurd lacks
-    by (AuditRefused line rule) lacks = absurd lacks
-    by (Stopped stop) lacks = absurd lacks
-    by (DecodeRefused fault) lacks = absurd lacks
-    by (Unfinished at) lacks = absurd lacks
+  within : Within here files
+  within = within_second _ _ start middle last one other
+
+  has : Has files file of.octets
+  has = has_within (gained start middle) files file of.octets (within_first _ _ start middle last one other) of.has
+
+  file_is : lacks_circuit asked scenario.plan ≡ None → IsScenarioFile files asked file of.octets scenario
+  file_is circuit = record { reads = reads; has = has; fits = of.fits; document_is = of.document_is; circuit = circuit }
+
+  capture_within : (o : Outcome) → LacksCapture here between after asked scenario o → LacksCapture files between after asked scenario o
+  capture_within o lacks = record { circuit = lacks.circuit; fails = fails_within files here between after (played scenario.commands) o within lacks.fails }
+
+  some_within : (o : Outcome) → LacksSome here between after asked scenario o → LacksSome files between after asked scenario o
+  some_within ReadFault lacks = capture_within ReadFault lacks
+  some_within (TooLong named limit) lacks = capture_within (TooLong named limit) lacks
+  some_within (CaptureRefused named fault) lacks = capture_within (CaptureRefused named fault) lacks
+  some_within (NoCircuit circuit) lacks = lacks
+  some_within NoMemory lacks = tt
+  some_within Done lacks = absurd lacks
+  some_within Usage lacks = absurd lacks
+  some_within WriteFault lacks = absurd lacks
+  some_within (ScenarioRefused fault) lacks = absurd lacks
+  some_within (ScriptRefused line word) lacks = absurd lacks
+  some_within (AuditRefused line rule) lacks = absurd lacks
+  some_within (Stopped stop) lacks = absurd lacks
+  some_within (DecodeRefused fault) lacks = absurd lacks
+  some_within (Unfinished at) lacks = absurd lacks
+
+  by : (o : Outcome) → LacksSome files between after asked scenario o → IsRefused files before after asked o
+  by ReadFault lacks = record {
+    wanted = record { name = lacks.fails.name; limit = capture_limit };
+    come = capture_wanted files between after asked file of.octets scenario ReadFault (file_is lacks.circuit) lacks.fails;
+    cause = rose_later (before lacks.fails.name) (between lacks.fails.name) (after lacks.fails.name) (later lacks.fails.name) lacks.fails.why;
+  }
+  by (TooLong named limit) lacks =
+      let (is_name, is_limit, longer) = lacks.fails.why in
+      record {
+        come = subst (λ (w : Wanted). ComesTo (Has files) asked (Reads w))
+            (sym (ap (λ (n : List ℕ). record { name = n; limit = limit }) is_name ∙ ap (λ (l : ℕ). record { name = lacks.fails.name; limit = l }) is_limit))
+            (capture_wanted files between after asked file of.octets scenario (TooLong named limit) (file_is lacks.circuit) lacks.fails);
+        longer = longer_as files named lacks.fails.name limit capture_limit is_name is_limit longer;
+      }
+  by (CaptureRefused named fault) lacks =
+      let (is_name, broken, some) = lacks.fails.why in (
+        subst (λ (n : List ℕ). ComesTo (Has files) asked (Refuses (CaptureRefused n fault))) (sym is_name)
+            (capture_refused files asked file of.octets named scenario between after named fault (file_is lacks.circuit) lacks.fails),
+        some,
+      )
+  by (NoCircuit circuit) lacks =
+      comes_first files asked file of.octets (Ok scenario) (Refuses (NoCircuit circuit)) reads has of.fits of.document_is
+      (subst (λ (o : Option (List ℕ)). IsNextOf o scenario [] (Refuses (NoCircuit circuit))) (sym lacks) refl)
+  by NoMemory lacks = tt
+  by Done lacks = absurd lacks
+  by Usage lacks = absurd lacks
+  by WriteFault lacks = absurd lacks
+  by (ScenarioRefused fault) lacks = absurd lacks
+  by (ScriptRefused line word) lacks = absurd lacks
+  by (AuditRefused line rule) lacks = absurd lacks
+  by (Stopped stop) lacks = absurd lacks
+  by (DecodeRefused fault) lacks = absurd lacks
+  by (Unfinished at) lacks = absurd lacks
+
+-- the same of an error, where there is one
+pub err_as : {T : Type 0} → (result : Result T Outcome) (P Q : Outcome → Type 0) → IfErr result P → ((outcome : Outcome) → P outcome → Q outcome) → IfErr result Q
+err_as (Ok value) P Q of follows = tt
+err_as (Err outcome) P Q of follows = follows outcome of
 
 -- the circuit that is named is not there
 pub lacks_named : (files : Files) (before after : List ℕ → ℕ) (asked : Asked) (scenario : Scenario) (circuit : List ℕ) (outcome : Outcome) → Some circuit

@@ -1,5 +1,5 @@
 -- How a call of the program ends: what is common to all commands.
-use Rattle.std.specs.Prelude.{Err, ◌≡◌, ◌≢◌, ◌⊎◌, ◌<◌, ℕ, List, [], length, Option, Some, None, IfSome}
+use Rattle.std.specs.Prelude.{Err, ◌≡◌, ◌≢◌, ◌⊎◌, ◌<◌, ℕ, List, [], length, Option, Some, None}
 use Rattle.net_base.specs.declared.plan.Plan.{Plan}
 use Rattle.net_base.specs.outside.Outside.{Rose}
 use Rattle.command_text.specs.declared.scenario_fault.ScenarioFault.TheVariants as scenario_fault
@@ -12,7 +12,7 @@ use Rattle.trace_audit.specs.Audited.{IsAudited, IsGoodReport}
 use Rattle.vplsnet.specs.declared.audit_rule.AuditRule.{AuditRule}
 use Rattle.vplsnet.specs.declared.outcome.Outcome.{Outcome}
 use Rattle.vplsnet.specs.declared.outcome.Outcome.TheVariants.{Done, Usage, ReadFault, WriteFault, TooLong, ScenarioRefused, NoCircuit, CaptureRefused, ScriptRefused, AuditRefused, Stopped, NoMemory}
-use Rattle.vplsnet.specs.Around.{Files, Around, HasReadFault, HasWriteFault, IsUntouched, Has, TellsFile}
+use Rattle.vplsnet.specs.Around.{Files, Around, HasReadFault, HasWriteFault, IsUntouched, Has, OfFiles, TellsFile}
 use Rattle.vplsnet.specs.Asked.{Asked, Replay, Tables, Capture, Decode, Rehearse, Migrate, Discover, Switchover, Audit}
 use Rattle.vplsnet.specs.Audit.{IsReportPassed, stop_of}
 use Rattle.vplsnet.specs.Capture.{captured}
@@ -115,7 +115,7 @@ pub record IsUnread (files : Files) (before after : List ℕ → ℕ) (asked : A
 -- a file that comes next has more octets than its limit
 pub record IsTooLong (files : Files) (asked : Asked) (named : List ℕ) (limit : ℕ) : Type 0 where
   pub come : ComesTo (Has files) asked (Reads (record { name = named; limit = limit }))
-  pub longer : IfSome files (λ held. IsLonger limit (held named))
+  pub longer : OfFiles files (λ held. IsLonger limit (held named))
 
 -- a report that was read breaks this rule, first in this line, and none of the rules before it
 pub record IsJudged (files : Files) (asked : Asked) (line : ℕ) (rule : AuditRule) : Type 0 where
@@ -179,7 +179,7 @@ abbrev pub Finishes : Around → Option Asked → Option NetLists → Outcome �
 Finishes around None network outcome = (outcome ≡ Usage) × IsUntouched around network
 Finishes around (Some asked) network outcome = SaysOutcome around asked network outcome
 
--- the shelf tells these octets of a file, and no call with its name failed
+-- a file with which the answers agree has these octets, and no call with its name failed
 pub record IsSoundFile (around : Around) (name octets : List ℕ) : Type 0 where
   pub tells : TellsFile around.files name octets
   pub read : ¬ HasReadFault around name
@@ -198,7 +198,7 @@ CallsFor around (Reads wanted) outcome = CallsTooLong around wanted outcome
 CallsFor around (Refuses refused) outcome = outcome ≡ refused
 CallsFor around (Works work) outcome = IsEndOf work outcome × (¬ HasWriteFault around)
 
--- the shelf tells the files that are read, no call with their names failed, and what comes next behind them calls for this outcome
+-- the answers agree with the files that are read, no call with their names failed, and what comes next behind them calls for this outcome
 pub record IsSoundOutcome (around : Around) (asked : Asked) (outcome : Outcome) : Type 0 where
   pub next : Next
   pub come : ComesTo (IsSoundFile around) asked next

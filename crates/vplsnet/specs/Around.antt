@@ -1,14 +1,22 @@
 -- What lies around a call of the program: its files and what it writes to.
-use Rattle.std.specs.Prelude.{◌≡◌, ℕ, List, [], Option, Some, None, IfSome}
-use Rattle.net_base.specs.outside.Outside.{Rose}
+use Rattle.std.specs.Prelude.{◌≡◌, ℕ, List, [], Option, Some, None, drop, length}
+use Rattle.net_base.specs.outside.Outside.{Agrees, ReadCall, Rose}
 use Rattle.net_base.specs.declared.trace.entry.Entry.{Entry}
 use Rattle.psn_net.specs.Lists.{NetLists}
 
--- what each name holds, where the shelf tells it
+-- what is known of files: the reads that a shelf was asked for, with the octets that they answered
 abbrev pub Files : Type 0
-Files = Option (List ℕ → Option (List ℕ))
+Files = List ReadCall
 
--- the files that the shelf tells, its counts of faults by name, what the sink took where it tells it, and the sink's
+-- the reads of a call, by those before and after it
+unfoldable pub gained : List ReadCall → List ReadCall → Files
+gained before after = drop (length before) after
+
+-- this is so of all files with which the answers agree
+abbrev pub OfFiles : Files → ((List ℕ → Option (List ℕ)) → Type 0) → Type 0
+OfFiles files IsSo = (held : List ℕ → Option (List ℕ)) → Agrees held files → IsSo held
+
+-- the reads of the call with their answers, the shelf's counts of faults by name, what the sink took where it tells it, and the sink's
 -- count of faults
 pub record Around : Type 0 where
   pub files : Files
@@ -20,9 +28,9 @@ pub record Around : Type 0 where
   pub sink_after : ℕ
 
 -- what lies around a call, by what a shelf and a sink tell of themselves before and after it
-abbrev pub around : {F K : Type 0} → (F → Files) → (F → List ℕ → ℕ) → (K → Option (List ℕ)) → (K → ℕ) → F → K → F → K → Around
-around files shelf_faults taken sink_faults shelf sink shelf_now sink_now = record {
-  files = files shelf;
+abbrev pub around : {F K : Type 0} → (F → List ReadCall) → (F → List ℕ → ℕ) → (K → Option (List ℕ)) → (K → ℕ) → F → K → F → K → Around
+around reads shelf_faults taken sink_faults shelf sink shelf_now sink_now = record {
+  files = gained (reads shelf) (reads shelf_now);
   shelf_before = shelf_faults shelf;
   shelf_after = shelf_faults shelf_now;
   taken_before = taken sink;
@@ -49,12 +57,12 @@ pub record IsUntouched (around : Around) (network : Option NetLists) : Type 0 wh
   pub taken : around.taken_after ≡ around.taken_before
   pub no_run : network ≡ None
 
--- the name has these octets, where the shelf tells its files
+-- the name has these octets, in all files with which the answers agree
 abbrev pub Has : Files → List ℕ → List ℕ → Type 0
-Has files name octets = IfSome files (λ held. held name ≡ Some octets)
+Has files name octets = OfFiles files (λ held. held name ≡ Some octets)
 
--- the shelf tells its files, and that the name has these octets
+-- there are files with which the answers agree, and in which the name has these octets
 pub record TellsFile (files : Files) (name octets : List ℕ) : Type 0 where
   pub held : List ℕ → Option (List ℕ)
-  pub told : files ≡ Some held
+  pub agrees : Agrees held files
   pub has : held name ≡ Some octets

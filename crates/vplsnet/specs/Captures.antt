@@ -1,5 +1,5 @@
 -- The captures that a scenario plays, as they are read.
-use Rattle.std.specs.Prelude.{◌≡◌, ◌≢◌, ◌≤◌, ◌++◌, ℕ, List, [], ◌∷◌, length, IfSome}
+use Rattle.std.specs.Prelude.{◌≡◌, ◌≢◌, ◌≤◌, ◌++◌, ℕ, List, [], ◌∷◌, length}
 use Rattle.net_base.specs.outside.Outside.{Rose}
 use Rattle.net_base.specs.plan.Planned.{IsFrame}
 use Rattle.std.specs.List.{All}
@@ -9,7 +9,7 @@ use Rattle.pcap_file.specs.FirstFault.{IsFirstFault}
 use Rattle.pcap_file.specs.Records.{IsCapture}
 use Rattle.vplsnet.specs.declared.outcome.Outcome.{Outcome}
 use Rattle.vplsnet.specs.declared.outcome.Outcome.TheVariants.{ReadFault, TooLong, CaptureRefused, NoMemory}
-use Rattle.vplsnet.specs.Around.{Files, Has}
+use Rattle.vplsnet.specs.Around.{Files, Has, OfFiles}
 use Rattle.vplsnet.specs.Files.{IsLonger}
 use Rattle.vplsnet.specs.Inputs.{capture_limit}
 
@@ -46,7 +46,7 @@ pub record HasCaptureFault (files : Files) (name : List ℕ) (fault : CaptureFau
 -- why the frames of a file were not had, by the shelf's counts of faults before and after
 abbrev pub IsNoCapture : Files → (List ℕ → ℕ) → (List ℕ → ℕ) → List ℕ → Outcome → Type 0
 IsNoCapture files before after name ReadFault = Rose (before name) (after name)
-IsNoCapture files before after name (TooLong named limit) = (named ≡ name) × (limit ≡ capture_limit) × IfSome files (λ held. IsLonger capture_limit (held name))
+IsNoCapture files before after name (TooLong named limit) = (named ≡ name) × (limit ≡ capture_limit) × OfFiles files (λ held. IsLonger capture_limit (held name))
 IsNoCapture files before after name (CaptureRefused named fault) = (named ≡ name) × HasCaptureFault files name fault × (fault ≢ capture_fault.NoMemory)
 IsNoCapture files before after name NoMemory = Unit {0}
 IsNoCapture files before after name outcome = ⊥

@@ -1,10 +1,11 @@
 -- Whole files and whole texts.
-use Rattle.std.specs.Prelude.{◌≡◌, ◌⊎◌, ◌<◌, ◌+◌, ℕ, List, length, take, Option, Some, Result, Ok, Err, IfSome}
+use Rattle.std.specs.Prelude.{◌≡◌, ◌⊎◌, ◌<◌, ◌+◌, ℕ, List, length, take, Option, Some, Result, Ok, Err}
 use Rattle.net_base.specs.outside.Outside.{ReadCall, Rose, raised}
 use Rattle.vplsnet.specs.declared.files.ReadStop.{ReadStop}
 use Rattle.vplsnet.specs.declared.files.ReadStop.TheVariants as stop
 use Rattle.vplsnet.specs.declared.outcome.Outcome.{Outcome}
 use Rattle.vplsnet.specs.declared.outcome.Outcome.TheVariants.{ReadFault, TooLong, NoMemory}
+use Rattle.vplsnet.specs.Around.{Files, OfFiles}
 
 -- the octets are the first of the file: all of them, or one more than the limit
 pub record IsFrontOf (limit : ℕ) (file : Option (List ℕ)) (octets : List ℕ) : Type 0 where
@@ -25,13 +26,13 @@ Unread stop.TooLong name limit outcome = (outcome ≡ TooLong name limit) ⊎ (o
 Unread stop.NoMemory name limit outcome = outcome ≡ NoMemory
 
 -- why a file was not had, as an outcome, by the shelf's counts of faults before and after
-abbrev pub IsNotHad : Option (List ℕ → Option (List ℕ)) → (List ℕ → ℕ) → (List ℕ → ℕ) → List ℕ → ℕ → Outcome → Type 0
+abbrev pub IsNotHad : Files → (List ℕ → ℕ) → (List ℕ → ℕ) → List ℕ → ℕ → Outcome → Type 0
 IsNotHad files before after name limit ReadFault = Rose (before name) (after name)
-IsNotHad files before after name limit (TooLong named most) = (named ≡ name) × (most ≡ limit) × IfSome files (λ held. IsLonger limit (held name))
+IsNotHad files before after name limit (TooLong named most) = (named ≡ name) × (most ≡ limit) × OfFiles files (λ held. IsLonger limit (held name))
 IsNotHad files before after name limit NoMemory = Unit {0}
 IsNotHad files before after name limit outcome = ⊥
 
--- what a shelf over the files of the system tells: how many calls failed, and which reads it was asked for
+-- what a shelf over the files of the system tells: how many calls failed, and which reads it was asked for, with their answers
 pub record ShelfState : Type 0 where
   pub faults : ℕ
   pub reads : List ReadCall

@@ -1,5 +1,6 @@
 -- The same files come to the same text.
-use Rattle.std.specs.Prelude.{◌≡◌, ℕ, List, Option, Some}
+use Rattle.std.specs.Prelude.{◌≡◌, ℕ, List, Option}
+use Rattle.net_base.specs.outside.Outside.{Agrees}
 use Rattle.psn_net.specs.Lists.{NetLists}
 use Rattle.text_lines.specs.Written.{Writes}
 use Rattle.vplsnet.specs.declared.outcome.Outcome.{Outcome}
@@ -26,9 +27,9 @@ EndAlike Done Done = Unit {0}
 EndAlike (Stopped one) (Stopped other) = Unit {0}
 EndAlike one other = ⊥
 
--- a call that answers so, over a shelf that tells these files
+-- a call that answers so, the reads of which agree with these files
 pub record IsCallOver (held : List ℕ → Option (List ℕ)) (around : Around) (asked : Asked) (outcome : Outcome) : Type 0 where
-  pub told : around.files ≡ Some held
+  pub agrees : Agrees held around.files
   pub network : Option NetLists
   pub says : SaysOutcome around asked network outcome
 
@@ -38,7 +39,7 @@ pub record TakeOneText (one other : Around) : Type 0 where
   pub first : Writes one.taken_before one.taken_after text
   pub second : Writes other.taken_before other.taken_after text
 
--- Two calls of a command over shelves that tell files with the same octets, which both did all, or which a limit stopped both, took the
+-- Two calls of a command, the reads of which agree with files of the same octets, which both did all, or which a limit stopped both, took the
 -- same text.
 abbrev pub OneInputOneText : Type 0
 OneInputOneText = (asked : Asked) (held same : List ℕ → Option (List ℕ)) (one other : Around) (outcome ending : Outcome) → HasOneText asked → ((name : List ℕ) → held name ≡ same name)

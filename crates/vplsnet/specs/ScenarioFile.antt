@@ -1,5 +1,5 @@
 -- What is known on the way through a scenario's file.
-use Rattle.std.specs.Prelude.{◌≡◌, ◌≢◌, ◌≤◌, ℕ, List, [], ◌∷◌, length, Some, None, Ok, Err, IfSome}
+use Rattle.std.specs.Prelude.{◌≡◌, ◌≢◌, ◌≤◌, ℕ, List, [], ◌∷◌, length, Some, None, Ok, Err}
 use Rattle.net_base.specs.outside.Outside.{Rose}
 use Rattle.command_text.specs.declared.scenario_fault.ScenarioFault.{ScenarioFault}
 use Rattle.command_text.specs.declared.scenario_fault.ScenarioFault.TheVariants as scenario_fault
@@ -7,7 +7,7 @@ use Rattle.scenario_text.specs.declared.scenario.Scenario.{Scenario}
 use Rattle.scenario_text.specs.Document.{document}
 use Rattle.vplsnet.specs.declared.outcome.Outcome.{Outcome}
 use Rattle.vplsnet.specs.declared.outcome.Outcome.TheVariants.{ReadFault, TooLong, ScenarioRefused, NoCircuit, CaptureRefused, NoMemory}
-use Rattle.vplsnet.specs.Around.{Files, Has}
+use Rattle.vplsnet.specs.Around.{Files, Has, OfFiles}
 use Rattle.vplsnet.specs.Asked.{Asked}
 use Rattle.vplsnet.specs.Capture.{lacks_circuit}
 use Rattle.vplsnet.specs.Captures.{FailsToPlay, HasPlayed}
@@ -54,7 +54,7 @@ pub record HasScenarioFault (files : Files) (file : List ℕ) (fault : ScenarioF
 -- why the scenario of a file was not had, by the shelf's counts of faults before and after
 abbrev pub HasNoScenario : Files → (List ℕ → ℕ) → (List ℕ → ℕ) → List ℕ → Outcome → Type 0
 HasNoScenario files before after file ReadFault = Rose (before file) (after file)
-HasNoScenario files before after file (TooLong named limit) = (named ≡ file) × (limit ≡ scenario_limit) × IfSome files (λ held. IsLonger scenario_limit (held file))
+HasNoScenario files before after file (TooLong named limit) = (named ≡ file) × (limit ≡ scenario_limit) × OfFiles files (λ held. IsLonger scenario_limit (held file))
 HasNoScenario files before after file (ScenarioRefused fault) = HasScenarioFault files file fault × (fault ≢ scenario_fault.NoMemory)
 HasNoScenario files before after file NoMemory = Unit {0}
 HasNoScenario files before after file outcome = ⊥

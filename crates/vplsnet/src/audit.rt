@@ -2,7 +2,7 @@
 ghost use Rattle.std.specs.Prelude.{◌≡◌, [], None};
 ghost use Rattle.net_base.specs.plan.Accepted.{IsChecked};
 ghost use Rattle.text_lines.specs.Written.{lines_written};
-ghost use Rattle.vplsnet.specs.{Answers.{SaysOutcome}, Around.{Has, around}, Asked.{Audit}, Audit.{outcome_of_stop}, Finish.{exit_status}};
+ghost use Rattle.vplsnet.specs.{Answers.{SaysOutcome}, Around.{Has, around, gained}, Asked.{Audit}, Audit.{outcome_of_stop}, Finish.{exit_status}};
 ghost use Rattle.vplsnet.specs.{Reads.{GainsReads, IsReadOfNext}, Writing.{EndsAudit}};
 
 use crate::audit_rule::AuditRule;
@@ -28,9 +28,8 @@ pub fn audit_files<F: Shelf, K: Sink>(
     sink: &mut K,
 ) -> Finish
     ensures status { result.status ≡ exit_status result.outcome }
-    ensures answers { SaysOutcome (around F.files F.faults K.taken K.faults shelf.old sink.old shelf.new sink.new) (Audit file.now report.now) result.network result.outcome }
-    ensures reads { GainsReads (IsReadOfNext (Has (F.files shelf.old)) (Audit file.now report.now)) (F.reads shelf.old) (F.reads shelf.new) }
-    ensures same_files { F.files shelf.new ≡ F.files shelf.old }
+    ensures answers { SaysOutcome (around F.reads F.faults K.taken K.faults shelf.old sink.old shelf.new sink.new) (Audit file.now report.now) result.network result.outcome }
+    ensures reads { GainsReads (IsReadOfNext (Has (gained (F.reads shelf.old) (F.reads shelf.new))) (Audit file.now report.now)) (F.reads shelf.old) (F.reads shelf.new) }
 {
     match plan_and_file(alloc, shelf, file, report, REPORT_LIMIT) {
         Ok(both) => {

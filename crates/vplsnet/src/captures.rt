@@ -2,7 +2,7 @@
 ghost use Rattle.std.specs.Prelude.{◌≡◌, ◌≢◌, All, IfErr, IfOk, OnOk};
 ghost use Rattle.net_base.specs.{outside.Outside.{NeverFall}, plan.Planned.{IsFrame}};
 ghost use Rattle.vplsnet.specs.Captures.{FailsToPlay, GainsPlayed, HasFrames, HasPlayed, IsNoCapture, IsToldAs};
-ghost use Rattle.vplsnet.specs.{Inputs.{capture_limit, played, played_by}, Reads.{GainsReads, IsPlayedRead, IsReadOf}};
+ghost use Rattle.vplsnet.specs.{Around.{gained}, Inputs.{capture_limit, played, played_by}, Reads.{GainsReads, IsPlayedRead, IsReadOf}};
 
 use crate::named_file::octets_of;
 use crate::outcome::Outcome;
@@ -22,11 +22,10 @@ pub fn captures_of<F: Shelf>(
     shelf: &mut F,
     commands: &[Command],
 ) -> Result<List<List<Octets>>, Outcome>
-    ensures played { IfOk result (HasPlayed (F.files shelf.old) (played commands.now)) }
+    ensures played { IfOk result (HasPlayed (gained (F.reads shelf.old) (F.reads shelf.new)) (played commands.now)) }
     ensures frames { IfOk result (All (All IsFrame)) }
-    ensures fails { IfErr result (FailsToPlay (F.files shelf.old) (F.faults shelf.old) (F.faults shelf.new) (played commands.now)) }
-    ensures reads { GainsReads (IsPlayedRead (F.files shelf.old) (played commands.now)) (F.reads shelf.old) (F.reads shelf.new) }
-    ensures same_files { F.files shelf.new ≡ F.files shelf.old }
+    ensures fails { IfErr result (FailsToPlay (gained (F.reads shelf.old) (F.reads shelf.new)) (F.faults shelf.old) (F.faults shelf.new) (played commands.now)) }
+    ensures reads { GainsReads (IsPlayedRead (gained (F.reads shelf.old) (F.reads shelf.new)) (played commands.now)) (F.reads shelf.old) (F.reads shelf.new) }
     ensures never_fall { NeverFall (F.faults shelf.old) (F.faults shelf.new) }
 {
     let mut captures = List::new(alloc);
@@ -47,10 +46,9 @@ fn add_played<F: Shelf>(
     command: &Command,
     captures: &mut List<List<Octets>>,
 ) -> Result<(), Outcome>
-    ensures gains { OnOk result (GainsPlayed (F.files shelf.old) (played_by command.now) captures.old captures.new) }
-    ensures fails { IfErr result (FailsToPlay (F.files shelf.old) (F.faults shelf.old) (F.faults shelf.new) (played_by command.now)) }
-    ensures reads { GainsReads (IsPlayedRead (F.files shelf.old) (played_by command.now)) (F.reads shelf.old) (F.reads shelf.new) }
-    ensures same_files { F.files shelf.new ≡ F.files shelf.old }
+    ensures gains { OnOk result (GainsPlayed (gained (F.reads shelf.old) (F.reads shelf.new)) (played_by command.now) captures.old captures.new) }
+    ensures fails { IfErr result (FailsToPlay (gained (F.reads shelf.old) (F.reads shelf.new)) (F.faults shelf.old) (F.faults shelf.new) (played_by command.now)) }
+    ensures reads { GainsReads (IsPlayedRead (gained (F.reads shelf.old) (F.reads shelf.new)) (played_by command.now)) (F.reads shelf.old) (F.reads shelf.new) }
     ensures never_fall { NeverFall (F.faults shelf.old) (F.faults shelf.new) }
 {
     let file = match command {
@@ -72,11 +70,10 @@ fn add_played<F: Shelf>(
 // The frames of a capture, or the outcome of why they were not had.
 #[tactic(auto, using(crate::proofs::CaptureLemmas::frame_steps, crate::proofs::CaptureLemmas::told_first, crate::proofs::CaptureLemmas::short_frames))]
 fn frames_of<F: Shelf>(alloc: Global, shelf: &mut F, file: &str) -> Result<List<Octets>, Outcome>
-    ensures has { IfOk result (HasFrames (F.files shelf.old) file.now) }
+    ensures has { IfOk result (HasFrames (gained (F.reads shelf.old) (F.reads shelf.new)) file.now) }
     ensures frames { IfOk result (All IsFrame) }
-    ensures not_had { IfErr result (IsNoCapture (F.files shelf.old) (F.faults shelf.old) (F.faults shelf.new) file.now) }
+    ensures not_had { IfErr result (IsNoCapture (gained (F.reads shelf.old) (F.reads shelf.new)) (F.faults shelf.old) (F.faults shelf.new) file.now) }
     ensures reads { GainsReads (IsReadOf (record { name = file.now; limit = capture_limit })) (F.reads shelf.old) (F.reads shelf.new) }
-    ensures same_files { F.files shelf.new ≡ F.files shelf.old }
     ensures never_fall { NeverFall (F.faults shelf.old) (F.faults shelf.new) }
 {
     let octets = match octets_of(alloc, shelf, file, CAPTURE_LIMIT) {

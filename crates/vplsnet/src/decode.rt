@@ -1,6 +1,6 @@
 //! The command `decode`: the lines of a stream of LDP messages.
 ghost use Rattle.std.specs.Prelude.{◌≡◌};
-ghost use Rattle.vplsnet.specs.{Answers.{SaysOutcome}, Around.{Has, around}, Asked.{Decode}, Finish.{exit_status}};
+ghost use Rattle.vplsnet.specs.{Answers.{SaysOutcome}, Around.{Has, around, gained}, Asked.{Decode}, Finish.{exit_status}};
 ghost use Rattle.vplsnet.specs.Reads.{GainsReads, IsReadOfNext};
 
 use crate::decoder::Decoder;
@@ -24,9 +24,8 @@ pub fn decode_file<F: Shelf, K: Sink>(
     sink: &mut K,
 ) -> Finish
     ensures status { result.status ≡ exit_status result.outcome }
-    ensures answers { SaysOutcome (around F.files F.faults K.taken K.faults shelf.old sink.old shelf.new sink.new) (Decode file.now) result.network result.outcome }
-    ensures reads { GainsReads (IsReadOfNext (Has (F.files shelf.old)) (Decode file.now)) (F.reads shelf.old) (F.reads shelf.new) }
-    ensures same_files { F.files shelf.new ≡ F.files shelf.old }
+    ensures answers { SaysOutcome (around F.reads F.faults K.taken K.faults shelf.old sink.old shelf.new sink.new) (Decode file.now) result.network result.outcome }
+    ensures reads { GainsReads (IsReadOfNext (Has (gained (F.reads shelf.old) (F.reads shelf.new))) (Decode file.now)) (F.reads shelf.old) (F.reads shelf.new) }
 {
     let mut decoder = match Decoder::new(alloc) {
         Ok(decoder) => decoder,

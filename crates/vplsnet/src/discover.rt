@@ -4,7 +4,7 @@ ghost use Rattle.command_text.specs.Planned.{names_of};
 ghost use Rattle.discovery_script.specs.{Lines.{discovery_lines_in}, Planned.{IsDiscoveryLineOf}};
 ghost use Rattle.net_base.specs.plan.Accepted.{IsChecked};
 ghost use Rattle.text_lines.specs.Written.{PutsOn, lines_written};
-ghost use Rattle.vplsnet.specs.{Answers.{SaysOutcome}, Around.{Has, around}, Asked.{Discover}, Discover.{discovery_text}};
+ghost use Rattle.vplsnet.specs.{Answers.{SaysOutcome}, Around.{Has, around, gained}, Asked.{Discover}, Discover.{discovery_text}};
 ghost use Rattle.vplsnet.specs.{Finish.{exit_status}, Reads.{GainsReads, IsReadOfNext}, ScriptFile.{EndsScript}, Writing.{EndsDiscovery}};
 
 use crate::finish::Finish;
@@ -32,9 +32,8 @@ pub fn discover_files<F: Shelf, K: Sink>(
     sink: &mut K,
 ) -> Finish
     ensures status { result.status ≡ exit_status result.outcome }
-    ensures answers { SaysOutcome (around F.files F.faults K.taken K.faults shelf.old sink.old shelf.new sink.new) (Discover file.now script.now) result.network result.outcome }
-    ensures reads { GainsReads (IsReadOfNext (Has (F.files shelf.old)) (Discover file.now script.now)) (F.reads shelf.old) (F.reads shelf.new) }
-    ensures same_files { F.files shelf.new ≡ F.files shelf.old }
+    ensures answers { SaysOutcome (around F.reads F.faults K.taken K.faults shelf.old sink.old shelf.new sink.new) (Discover file.now script.now) result.network result.outcome }
+    ensures reads { GainsReads (IsReadOfNext (Has (gained (F.reads shelf.old) (F.reads shelf.new))) (Discover file.now script.now)) (F.reads shelf.old) (F.reads shelf.new) }
 {
     match plan_and_file(alloc, shelf, file, script, SCRIPT_LIMIT) {
         Ok(both) => discover(alloc, &both.scenario.plan, both.octets.as_slice(), sink),

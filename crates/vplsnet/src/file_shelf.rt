@@ -1,6 +1,6 @@
 //! The shelf of the system's files.
 ghost use Rattle.std.specs.Prelude.{◌≡◌, ◌<◌, ◌≤◌, ◌↔◌, ◌++◌, ◌∷◌, [], true, length, slice_get, string_bytes, IfOk, IfSome};
-ghost use Rattle.net_base.specs.outside.Outside.{HasCause, NeverFall};
+ghost use Rattle.net_base.specs.outside.Outside.{HasCause, NeverFall, answer_of};
 ghost use Rattle.vplsnet.specs.Files.{count_after};
 
 use net_base::{Failed, Read as ReadCall, ReadLog, Shelf};
@@ -80,7 +80,7 @@ fn open_file<R: Files>(alloc: Global, files: &R, name: &str) -> io::Result<Opene
 
 /// The files of the system, by their paths. Each is opened once and stays open, so that a file that is replaced meanwhile
 /// is still read as the one that it was. Contracts see its one count of faults, which is that of every name, and the reads that it was
-/// asked for: it tells no octet of a file.
+/// asked for, with the octets that they answered. That a file has these octets is the system's part.
 #[derive(Drop)]
 pub struct FileShelf<R: Files> {
     files: R,
@@ -135,10 +135,6 @@ impl<R: Files> FileShelf<R> {
 }
 
 impl<R: Files> Shelf for FileShelf<R> {
-    ghost use Rattle.std.specs.Prelude.{None};
-
-    ghost files = { λ _. None };
-
     ghost reads = { λ shelf. shelf.reads };
 
     ghost faults = { λ shelf _. shelf.faults };
@@ -149,16 +145,28 @@ impl<R: Files> Shelf for FileShelf<R> {
         ensures never_fall { NeverFall (λ _. self.old.faults) (λ _. self.new.faults) }
         ensures cause { HasCause self.old.faults self.new.faults result }
         ensures counted { self.new.faults ≡ count_after self.old.faults result }
-        ensures reads { self.new.reads ≡ self.old.reads ++ record { name = name.now; from = from; room = length buf.old } ∷ [] }
+        ensures reads { self.new.reads ≡ self.old.reads ++ record { name = name.now; from = from; room = length buf.old; answer = answer_of result buf.new } ∷ [] }
     {
-        self.log = self.log.with_read(&ReadCall {
-            name,
-            from,
-            room: buf.len(),
-        });
+        let room = buf.len();
         match self.read_from(name, from, buf) {
-            Ok(count) => Ok(count),
+            Ok(count) => {
+                self.log = self.log.with_read(&ReadCall {
+                    name,
+                    from,
+                    room,
+                    octets: &buf[..count],
+                    failed: false,
+                });
+                Ok(count)
+            }
             Err(_) => {
+                self.log = self.log.with_read(&ReadCall {
+                    name,
+                    from,
+                    room,
+                    octets: &buf[..0],
+                    failed: true,
+                });
                 self.faults = self.faults.saturating_add(1);
                 Err(Failed)
             }

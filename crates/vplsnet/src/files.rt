@@ -1,7 +1,7 @@
 //! Whole files, read in pieces.
-ghost use Rattle.std.specs.Prelude.{◌≡◌, ◌<◌, ◌≤◌, ◌+◌, ◌^◌, length, IfErr, IfOk, IfSome, IsErrOf, OnOk, Some};
+ghost use Rattle.std.specs.Prelude.{◌≡◌, ◌<◌, ◌≤◌, ◌+◌, ◌^◌, length, IfErr, IfOk, IsErrOf, OnOk, Some};
 ghost use Rattle.net_base.specs.outside.Outside.{Rose, NeverFall};
-ghost use Rattle.vplsnet.specs.{Files.{IsFrontOf, IsLonger}, Reads.{GainsReads, IsReadOf}};
+ghost use Rattle.vplsnet.specs.{Around.{OfFiles, gained}, Files.{IsFrontOf, IsLonger}, Reads.{GainsReads, IsReadOf}};
 
 use net_base::{Failed, List, NoMemory, Octets, Shelf};
 use std::alloc::Global;
@@ -20,8 +20,8 @@ pub enum ReadStop {
     NoMemory,
 }
 
-/// Reads a file from its front on, to its end or until one octet more than the limit is read: of a file that
-/// the shelf tells, exactly the first `min(length, limit + 1)` octets. It asks for no octet beyond `limit + 1`, and for no other file.
+/// Reads a file from its front on, to its end or until one octet more than the limit is read: of all files with which the answers of the
+/// shelf agree, exactly the first `min(length, limit + 1)` octets. It asks for no octet beyond `limit + 1`, and for no other file.
 ///
 /// `Fault` comes only where a call with this name failed. `TooLong` never comes.
 pub fn read_front<F: Shelf>(
@@ -31,12 +31,11 @@ pub fn read_front<F: Shelf>(
     limit: usize,
 ) -> Result<Octets, ReadStop>
     requires { limit < 2 ^ 62 }
-    ensures front { IfSome (F.files shelf.old) (λ held. IfOk result (λ octets. IsFrontOf limit (held name.now) octets)) }
+    ensures front { OfFiles (gained (F.reads shelf.old) (F.reads shelf.new)) (λ held. IfOk result (λ octets. IsFrontOf limit (held name.now) octets)) }
     ensures within { IfOk result (λ octets. length octets ≤ limit + 1) }
     ensures fault { IsErrOf result ReadStop.Fault → Rose (F.faults shelf.old name.now) (F.faults shelf.new name.now) }
     ensures never_long { IsErrOf result ReadStop.TooLong → ⊥ }
     ensures reads { GainsReads (IsReadOf (record { name = name.now; limit = limit })) (F.reads shelf.old) (F.reads shelf.new) }
-    ensures same_files { F.files shelf.new ≡ F.files shelf.old }
     ensures never_fall { NeverFall (F.faults shelf.old) (F.faults shelf.new) }
 {
     let mut octets = List::new(alloc);
@@ -68,13 +67,12 @@ pub fn read_file<F: Shelf>(
     limit: usize,
 ) -> Result<Octets, ReadStop>
     requires { limit < 2 ^ 62 }
-    ensures whole { IfSome (F.files shelf.old) (λ held. IfOk result (λ octets. held name.now ≡ Some octets)) }
+    ensures whole { OfFiles (gained (F.reads shelf.old) (F.reads shelf.new)) (λ held. IfOk result (λ octets. held name.now ≡ Some octets)) }
     ensures within { IfOk result (λ octets. length octets ≤ limit) }
-    ensures too_long { IfSome (F.files shelf.old) (λ held. IsErrOf result ReadStop.TooLong → IsLonger limit (held name.now)) }
-    ensures never_longer { IfSome (F.files shelf.old) (λ held. IsLonger limit (held name.now) → OnOk result ⊥) }
+    ensures too_long { OfFiles (gained (F.reads shelf.old) (F.reads shelf.new)) (λ held. IsErrOf result ReadStop.TooLong → IsLonger limit (held name.now)) }
+    ensures never_longer { OfFiles (gained (F.reads shelf.old) (F.reads shelf.new)) (λ held. IsLonger limit (held name.now) → OnOk result ⊥) }
     ensures fault { IsErrOf result ReadStop.Fault → Rose (F.faults shelf.old name.now) (F.faults shelf.new name.now) }
     ensures reads { GainsReads (IsReadOf (record { name = name.now; limit = limit })) (F.reads shelf.old) (F.reads shelf.new) }
-    ensures same_files { F.files shelf.new ≡ F.files shelf.old }
     ensures never_fall { NeverFall (F.faults shelf.old) (F.faults shelf.new) }
 {
     match read_front(alloc, shelf, name, limit) {

@@ -2,7 +2,7 @@
 ghost use Rattle.std.specs.Prelude.{◌≡◌, [], None};
 ghost use Rattle.migration.specs.Law.{WasRead};
 ghost use Rattle.text_lines.specs.Written.{lines_written};
-ghost use Rattle.vplsnet.specs.{Answers.{SaysOutcome}, Around.{Has, around}, Asked.{Migrate}, Finish.{exit_status}};
+ghost use Rattle.vplsnet.specs.{Answers.{SaysOutcome}, Around.{Has, around, gained}, Asked.{Migrate}, Finish.{exit_status}};
 ghost use Rattle.vplsnet.specs.{Reads.{GainsReads, IsReadOfNext}, Writing.{EndsMigration}};
 
 use crate::finish::Finish;
@@ -24,9 +24,8 @@ pub fn migrate_file<F: Shelf, K: Sink>(
     sink: &mut K,
 ) -> Finish
     ensures status { result.status ≡ exit_status result.outcome }
-    ensures answers { SaysOutcome (around F.files F.faults K.taken K.faults shelf.old sink.old shelf.new sink.new) (Migrate file.now) result.network result.outcome }
-    ensures reads { GainsReads (IsReadOfNext (Has (F.files shelf.old)) (Migrate file.now)) (F.reads shelf.old) (F.reads shelf.new) }
-    ensures same_files { F.files shelf.new ≡ F.files shelf.old }
+    ensures answers { SaysOutcome (around F.reads F.faults K.taken K.faults shelf.old sink.old shelf.new sink.new) (Migrate file.now) result.network result.outcome }
+    ensures reads { GainsReads (IsReadOfNext (Has (gained (F.reads shelf.old) (F.reads shelf.new))) (Migrate file.now)) (F.reads shelf.old) (F.reads shelf.new) }
 {
     match file_scenario(alloc, shelf, file) {
         Ok(scenario) => Finish::without_run(write_migrated(alloc, &scenario, sink)),

@@ -1,7 +1,7 @@
 //! A file that is named, read whole.
-ghost use Rattle.std.specs.Prelude.{◌≡◌, ◌≤◌, ◌<◌, ◌^◌, length, IfErr, IfOk};
+ghost use Rattle.std.specs.Prelude.{◌≤◌, ◌<◌, ◌^◌, length, IfErr, IfOk};
 ghost use Rattle.net_base.specs.outside.Outside.{NeverFall};
-ghost use Rattle.vplsnet.specs.{Around.{Has}, Files.{IsNotHad, Unread}, Reads.{GainsReads, IsReadOf}};
+ghost use Rattle.vplsnet.specs.{Around.{Has, gained}, Files.{IsNotHad, Unread}, Reads.{GainsReads, IsReadOf}};
 
 use crate::files::{ReadStop, read_file};
 use crate::outcome::Outcome;
@@ -16,11 +16,10 @@ pub fn octets_of<F: Shelf>(
     limit: usize,
 ) -> Result<Octets, Outcome>
     requires { limit < 2 ^ 62 }
-    ensures has { IfOk result (Has (F.files shelf.old) name.now) }
+    ensures has { IfOk result (Has (gained (F.reads shelf.old) (F.reads shelf.new)) name.now) }
     ensures fits { IfOk result (λ octets. length octets ≤ limit) }
-    ensures not_had { IfErr result (IsNotHad (F.files shelf.old) (F.faults shelf.old) (F.faults shelf.new) name.now limit) }
+    ensures not_had { IfErr result (IsNotHad (gained (F.reads shelf.old) (F.reads shelf.new)) (F.faults shelf.old) (F.faults shelf.new) name.now limit) }
     ensures reads { GainsReads (IsReadOf (record { name = name.now; limit = limit })) (F.reads shelf.old) (F.reads shelf.new) }
-    ensures same_files { F.files shelf.new ≡ F.files shelf.old }
     ensures never_fall { NeverFall (F.faults shelf.old) (F.faults shelf.new) }
 {
     match read_file(alloc, shelf, name, limit) {

@@ -1,7 +1,7 @@
 //! A scenario's file, and a second file that is read behind it.
-ghost use Rattle.std.specs.Prelude.{◌≡◌, ◌<◌, ◌^◌, IfErr, IfOk};
+ghost use Rattle.std.specs.Prelude.{◌<◌, ◌^◌, IfErr, IfOk};
 ghost use Rattle.net_base.specs.plan.Accepted.{IsChecked};
-ghost use Rattle.vplsnet.specs.{PlanFile.{HasBoth, IsReadOfTwo, LacksOne}, Reads.{GainsReads}};
+ghost use Rattle.vplsnet.specs.{Around.{gained}, PlanFile.{HasBoth, IsReadOfTwo, LacksOne}, Reads.{GainsReads}};
 
 use crate::named_file::octets_of;
 use crate::outcome::Outcome;
@@ -29,11 +29,10 @@ pub fn plan_and_file<F: Shelf>(
     limit: usize,
 ) -> Result<PlanFile, Outcome>
     requires { limit < 2 ^ 62 }
-    ensures has { IfOk result (λ both. HasBoth (F.files shelf.old) file.now (record { name = second.now; limit = limit }) both.scenario both.octets) }
+    ensures has { IfOk result (λ both. HasBoth (gained (F.reads shelf.old) (F.reads shelf.new)) file.now (record { name = second.now; limit = limit }) both.scenario both.octets) }
     ensures checked { IfOk result (λ both. IsChecked both.scenario.plan) }
-    ensures lacks { IfErr result (LacksOne (F.files shelf.old) (F.faults shelf.old) (F.faults shelf.new) file.now (record { name = second.now; limit = limit })) }
-    ensures reads { GainsReads (IsReadOfTwo (F.files shelf.old) file.now (record { name = second.now; limit = limit })) (F.reads shelf.old) (F.reads shelf.new) }
-    ensures same_files { F.files shelf.new ≡ F.files shelf.old }
+    ensures lacks { IfErr result (LacksOne (gained (F.reads shelf.old) (F.reads shelf.new)) (F.faults shelf.old) (F.faults shelf.new) file.now (record { name = second.now; limit = limit })) }
+    ensures reads { GainsReads (IsReadOfTwo (gained (F.reads shelf.old) (F.reads shelf.new)) file.now (record { name = second.now; limit = limit })) (F.reads shelf.old) (F.reads shelf.new) }
 {
     let scenario = match file_scenario(alloc, shelf, file) {
         Ok(scenario) => scenario,

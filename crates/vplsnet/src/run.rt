@@ -3,7 +3,7 @@ ghost use Rattle.std.specs.Prelude.{◌≡◌, ◌↔◌, [], All, None, Some, m
 ghost use Rattle.net_base.specs.{plan.Accepted.{IsChecked}, plan.Planned.{IsFrame}};
 ghost use Rattle.command_text.specs.Planned.{IsPlanned};
 ghost use Rattle.text_lines.specs.Written.{lines_written};
-ghost use Rattle.vplsnet.specs.{Answers.{Completes, Finishes, IsRefused}, Around.{Has, around}, Asked.{asked, asked_by}};
+ghost use Rattle.vplsnet.specs.{Answers.{Completes, Finishes, IsRefused}, Around.{Has, around, gained}, Asked.{asked, asked_by}};
 ghost use Rattle.vplsnet.specs.{Finish.{exit_status}, Inputs.{ComesTo, Run, Works}, Reads.{GainsReads, IsReadOfNext, MayRead}};
 ghost use Rattle.vplsnet.specs.Writing.{EndsRun, RunsScenario};
 
@@ -26,7 +26,8 @@ use std::alloc::Global;
 use tables_text::Sorting;
 use text_lines::Page;
 
-/// Does what the words ask, over a shelf of files and a sink for the text. `Usage` comes exactly where the words are no row below.
+/// Does what the words ask, over a shelf of files and a sink for the text. What is said of files is said of all files with which the
+/// answers of the shelf agree. `Usage` comes exactly where the words are no row below.
 ///
 /// `replay FILE`, `tables FILE` and `capture FILE CIRCUIT` read a scenario, of at most 8,388,608 octets, and run it. In this order come
 /// `ReadFault` and `TooLong` of the file, `ScenarioRefused`, `NoCircuit`, and then, for each capture that the scenario plays, in the order
@@ -70,13 +71,11 @@ pub fn run<F: Shelf, K: Sink>(
     // Words that ask for nothing, and nothing else, are a usage.
     ensures usage { (result.outcome ≡ Outcome.Usage) ↔ (asked (map string_bytes words.now) ≡ None) }
     // What each outcome says, its cause among it: what was read, what was taken, and the network after the run.
-    ensures answers { Finishes (around F.files F.faults K.taken K.faults shelf.old sink.old shelf.new sink.new) (asked (map string_bytes words.now)) result.network result.outcome }
-    // A told file is answered by what it is, unless a fault was counted or memory was refused.
-    ensures complete { IfSome (asked (map string_bytes words.now)) (λ asked. Completes (around F.files F.faults K.taken K.faults shelf.old sink.old shelf.new sink.new) asked result.outcome) }
+    ensures answers { Finishes (around F.reads F.faults K.taken K.faults shelf.old sink.old shelf.new sink.new) (asked (map string_bytes words.now)) result.network result.outcome }
+    // A file with which the answers agree is answered by what it is, unless a fault was counted or memory was refused.
+    ensures complete { IfSome (asked (map string_bytes words.now)) (λ asked. Completes (around F.reads F.faults K.taken K.faults shelf.old sink.old shelf.new sink.new) asked result.outcome) }
     // Only files that come next are read, each for at most one octet more than its limit.
-    ensures reads { GainsReads (MayRead (F.files shelf.old) (asked (map string_bytes words.now))) (F.reads shelf.old) (F.reads shelf.new) }
-    // The shelf's files are as they were.
-    ensures same_files { F.files shelf.new ≡ F.files shelf.old }
+    ensures reads { GainsReads (MayRead (gained (F.reads shelf.old) (F.reads shelf.new)) (asked (map string_bytes words.now))) (F.reads shelf.old) (F.reads shelf.new) }
 {
     let request = match request_of(words) {
         Some(request) => request,
@@ -107,13 +106,12 @@ pub fn run<F: Shelf, K: Sink>(
 #[tactic(auto, using(crate::proofs::ScenarioFileLemmas::work_steps, crate::proofs::ReadLemmas::reads_none))]
 fn work_of<F: Shelf>(alloc: Global, request: Request<'_>, shelf: &mut F) -> Result<Work, Outcome>
     requires runs { RunsScenario (asked_by request) }
-    ensures come { IfOk result (λ work. ComesTo (Has (F.files shelf.old)) (asked_by request.entry) (Works (Run work.scenario work.captures))) }
+    ensures come { IfOk result (λ work. ComesTo (Has (gained (F.reads shelf.old) (F.reads shelf.new))) (asked_by request.entry) (Works (Run work.scenario work.captures))) }
     ensures checked { IfOk result (λ work. IsChecked work.scenario.plan) }
     ensures planned { IfOk result (λ work. All (IsPlanned work.scenario.plan) work.scenario.commands) }
     ensures frames { IfOk result (λ work. All (All IsFrame) work.captures) }
-    ensures refused { IfErr result (IsRefused (F.files shelf.old) (F.faults shelf.old) (F.faults shelf.new) (asked_by request.entry)) }
-    ensures reads { GainsReads (IsReadOfNext (Has (F.files shelf.old)) (asked_by request.entry)) (F.reads shelf.old) (F.reads shelf.new) }
-    ensures same_files { F.files shelf.new ≡ F.files shelf.old }
+    ensures refused { IfErr result (IsRefused (gained (F.reads shelf.old) (F.reads shelf.new)) (F.faults shelf.old) (F.faults shelf.new) (asked_by request.entry)) }
+    ensures reads { GainsReads (IsReadOfNext (Has (gained (F.reads shelf.old) (F.reads shelf.new))) (asked_by request.entry)) (F.reads shelf.old) (F.reads shelf.new) }
 {
     match request {
         Request::Replay { file } => scenario_of(alloc, shelf, request, file),

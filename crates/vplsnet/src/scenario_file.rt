@@ -2,7 +2,7 @@
 ghost use Rattle.std.specs.Prelude.{◌≡◌, All, IfErr, IfOk, Ok};
 ghost use Rattle.net_base.specs.{outside.Outside.{NeverFall}, plan.Accepted.{IsChecked}, plan.Planned.{IsFrame}};
 ghost use Rattle.command_text.specs.Planned.{IsPlanned};
-ghost use Rattle.vplsnet.specs.{Answers.{IsRefused}, Around.{Has}, Asked.{asked_by}, Inputs.{ComesTo, Run, Works, scenario_limit}};
+ghost use Rattle.vplsnet.specs.{Answers.{IsRefused}, Around.{Has, gained}, Asked.{asked_by}, Inputs.{ComesTo, Run, Works, scenario_limit}};
 ghost use Rattle.vplsnet.specs.Reads.{GainsReads, IsCaptureRead, IsReadOf, IsReadOfNext};
 ghost use Rattle.vplsnet.specs.ScenarioFile.{HasAll, HasNoScenario, IsOfFile, LacksSome, ReadsScenario, outcome_of_fault};
 
@@ -26,13 +26,12 @@ pub fn file_scenario<F: Shelf>(
     shelf: &mut F,
     file: &str,
 ) -> Result<Scenario, Outcome>
-    ensures has { IfOk result (IsOfFile (F.files shelf.old) file.now) }
+    ensures has { IfOk result (IsOfFile (gained (F.reads shelf.old) (F.reads shelf.new)) file.now) }
     ensures checked { IfOk result (λ scenario. IsChecked scenario.plan) }
     ensures planned { IfOk result (λ scenario. All (IsPlanned scenario.plan) scenario.commands) }
-    ensures none { IfErr result (HasNoScenario (F.files shelf.old) (F.faults shelf.old) (F.faults shelf.new) file.now) }
+    ensures none { IfErr result (HasNoScenario (gained (F.reads shelf.old) (F.reads shelf.new)) (F.faults shelf.old) (F.faults shelf.new) file.now) }
     ensures reads { GainsReads (IsReadOf (record { name = file.now; limit = scenario_limit })) (F.reads shelf.old) (F.reads shelf.new) }
     ensures never_fall { NeverFall (F.faults shelf.old) (F.faults shelf.new) }
-    ensures same_files { F.files shelf.new ≡ F.files shelf.old }
 {
     let octets = match octets_of(alloc, shelf, file, SCENARIO_LIMIT) {
         Ok(octets) => octets,
@@ -55,13 +54,12 @@ pub fn scenario_of<F: Shelf>(
     file: &str,
 ) -> Result<Work, Outcome>
     requires { ReadsScenario (asked_by request) file.now }
-    ensures come { IfOk result (λ work. ComesTo (Has (F.files shelf.old)) (asked_by request.entry) (Works (Run work.scenario work.captures))) }
+    ensures come { IfOk result (λ work. ComesTo (Has (gained (F.reads shelf.old) (F.reads shelf.new))) (asked_by request.entry) (Works (Run work.scenario work.captures))) }
     ensures checked { IfOk result (λ work. IsChecked work.scenario.plan) }
     ensures planned { IfOk result (λ work. All (IsPlanned work.scenario.plan) work.scenario.commands) }
     ensures frames { IfOk result (λ work. All (All IsFrame) work.captures) }
-    ensures refused { IfErr result (IsRefused (F.files shelf.old) (F.faults shelf.old) (F.faults shelf.new) (asked_by request.entry)) }
-    ensures reads { GainsReads (IsReadOfNext (Has (F.files shelf.old)) (asked_by request.entry)) (F.reads shelf.old) (F.reads shelf.new) }
-    ensures same_files { F.files shelf.new ≡ F.files shelf.old }
+    ensures refused { IfErr result (IsRefused (gained (F.reads shelf.old) (F.reads shelf.new)) (F.faults shelf.old) (F.faults shelf.new) (asked_by request.entry)) }
+    ensures reads { GainsReads (IsReadOfNext (Has (gained (F.reads shelf.old) (F.reads shelf.new))) (asked_by request.entry)) (F.reads shelf.old) (F.reads shelf.new) }
 {
     match file_scenario(alloc, shelf, file) {
         Ok(scenario) => with_captures(alloc, shelf, request, scenario),
@@ -90,11 +88,10 @@ fn with_captures<F: Shelf>(
     scenario: Scenario,
 ) -> Result<Work, Outcome>
     ensures same { IfOk result (λ work. work.scenario ≡ scenario) }
-    ensures all { IfOk result (λ work. HasAll (F.files shelf.old) (asked_by request.entry) scenario work.captures) }
+    ensures all { IfOk result (λ work. HasAll (gained (F.reads shelf.old) (F.reads shelf.new)) (asked_by request.entry) scenario work.captures) }
     ensures frames { IfOk result (λ work. All (All IsFrame) work.captures) }
-    ensures lacks { IfErr result (LacksSome (F.files shelf.old) (F.faults shelf.old) (F.faults shelf.new) (asked_by request.entry) scenario) }
-    ensures reads { GainsReads (IsCaptureRead (F.files shelf.old) (asked_by request.entry) scenario) (F.reads shelf.old) (F.reads shelf.new) }
-    ensures same_files { F.files shelf.new ≡ F.files shelf.old }
+    ensures lacks { IfErr result (LacksSome (gained (F.reads shelf.old) (F.reads shelf.new)) (F.faults shelf.old) (F.faults shelf.new) (asked_by request.entry) scenario) }
+    ensures reads { GainsReads (IsCaptureRead (gained (F.reads shelf.old) (F.reads shelf.new)) (asked_by request.entry) scenario) (F.reads shelf.old) (F.reads shelf.new) }
 {
     if let Some(circuit) = missing_circuit(request, &scenario.plan) {
         return match Word::new(alloc, circuit) {

@@ -4,7 +4,7 @@ ghost use Rattle.net_base.specs.plan.Accepted.{IsChecked};
 ghost use Rattle.switchover_model.specs.Planned.{IsLineOf};
 ghost use Rattle.switchover_script.specs.Lines.{switch_lines_in};
 ghost use Rattle.text_lines.specs.Written.{lines_written};
-ghost use Rattle.vplsnet.specs.{Answers.{SaysOutcome}, Around.{Has, around}, Asked.{Switchover}, Finish.{exit_status}};
+ghost use Rattle.vplsnet.specs.{Answers.{SaysOutcome}, Around.{Has, around, gained}, Asked.{Switchover}, Finish.{exit_status}};
 ghost use Rattle.vplsnet.specs.{Reads.{GainsReads, IsReadOfNext}, ScriptFile.{EndsScript}, Writing.{EndsExchange}};
 
 use crate::finish::Finish;
@@ -30,9 +30,8 @@ pub fn switchover_files<F: Shelf, K: Sink>(
     sink: &mut K,
 ) -> Finish
     ensures status { result.status ≡ exit_status result.outcome }
-    ensures answers { SaysOutcome (around F.files F.faults K.taken K.faults shelf.old sink.old shelf.new sink.new) (Switchover file.now script.now) result.network result.outcome }
-    ensures reads { GainsReads (IsReadOfNext (Has (F.files shelf.old)) (Switchover file.now script.now)) (F.reads shelf.old) (F.reads shelf.new) }
-    ensures same_files { F.files shelf.new ≡ F.files shelf.old }
+    ensures answers { SaysOutcome (around F.reads F.faults K.taken K.faults shelf.old sink.old shelf.new sink.new) (Switchover file.now script.now) result.network result.outcome }
+    ensures reads { GainsReads (IsReadOfNext (Has (gained (F.reads shelf.old) (F.reads shelf.new))) (Switchover file.now script.now)) (F.reads shelf.old) (F.reads shelf.new) }
 {
     match plan_and_file(alloc, shelf, file, script, SCRIPT_LIMIT) {
         Ok(both) => {

@@ -1,13 +1,13 @@
 use Rattle.std.proofs.Common.{◌≡◌, ◌≤◌, ◌+◌, ◌-◌, length}
 use Rattle.net_base.specs.outside.Outside.{NeverFall}
+use Rattle.vplsnet.specs.Around.{gained}
 use Rattle.vplsnet.specs.Reads.{GainsReads, IsReadOf}
 use Rattle.vplsnet.proofs.FileLemmas.{IsRead}
 use Rattle.vplsnet.proofs.files.read_front.Given as goal
 
 abbrev pub invariant-reading : goal.invariant-reading
 invariant-reading g l = record {
-  front : IsRead (g.F.Shelf.files l.fn.shelf) l.name l.octets;
-  files : g.F.Shelf.files l.shelf ≡ g.F.Shelf.files l.fn.shelf;
+  front : IsRead (gained (g.F.Shelf.reads l.fn.shelf) (g.F.Shelf.reads l.shelf)) l.name l.octets;
   faults : NeverFall (g.F.Shelf.faults l.fn.shelf) (g.F.Shelf.faults l.shelf);
   reads : GainsReads (IsReadOf (record { name = l.name; limit = l.limit })) (g.F.Shelf.reads l.fn.shelf) (g.F.Shelf.reads l.shelf);
   within : length l.octets ≤ l.limit + 1;
