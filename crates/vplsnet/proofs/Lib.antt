@@ -13,6 +13,7 @@ pub mod ReportLemmas
 pub mod RunLemmas
 pub mod ScenarioFileLemmas
 pub mod ScriptFileLemmas
+pub mod SettleLemmas
 pub mod StreamLemmas
 pub mod SwitchoverLemmas
 pub mod WritingLemmas

@@ -28,6 +28,7 @@ use Rattle.address_laws.proofs.KnownLemmas.{runs_reach_known}
 use Rattle.address_laws.proofs.PointsLemmas.{runs_keep_points}
 use Rattle.move_laws.proofs.HealLemmas.{runs_heal_moves}
 use Rattle.settle_laws.proofs.RunLemmas.{deliveries_keep_choice, deliveries_keep_sound, runs_carry_sound, runs_come_to_calm, runs_rest_quiet, runs_settle_calm}
+use Rattle.quiet_laws.proofs.RunLemmas.{runs_rest_by_measure}
 use Rattle.report_laws.proofs.RunLemmas.{runs_tell}
 use Rattle.seen_laws.proofs.CalmLemmas.{run_calm}
 use Rattle.seen_laws.proofs.SourceLemmas.{runs_seen_once}
@@ -41,6 +42,7 @@ use Rattle.vplsnet.specs.Promises.{KeepsPromises}
 use Rattle.vplsnet.specs.RunOver.{HasRunOver, IsRunOver}
 use Rattle.vplsnet.specs.ScenarioRun.{HasRun, IsScenarioRun, events_of}
 use Rattle.command_run.proofs.PlannedLemmas.{made_planned}
+use Rattle.vplsnet.proofs.SettleLemmas as settle
 
 -- the first events of a run are a run
 run_of_first : (plan : Plan) (events before after : List Event) → events ≡ before ++ after → IsRun plan events → IsRun plan before
@@ -83,6 +85,9 @@ promises_kept plan events run = record {
   used = λ before after joined. deliveries_keep_choice plan before (first before after joined);
   rest = λ before after joined. runs_rest_quiet plan before (first before after joined);
   comes = λ before after joined. runs_come_to_calm plan before (first before after joined);
+  rests = λ before after joined. runs_rest_by_measure plan before (first before after joined);
+  settles = λ before after joined. settle.settles_all plan before;
+  settles_calm = λ before after joined. settle.settles_calm plan before (first before after joined);
   labels = λ before after joined. runs_keep_label_rule plan before (first before after joined);
   contents = λ before after joined. runs_keep_told_rule plan before (first before after joined);
   endings = runs_end_well plan events run;

@@ -22,6 +22,7 @@ pub mod RunOver
 pub mod ScenarioFile
 pub mod ScenarioRun
 pub mod ScriptFile
+pub mod Settled
 pub mod StopText
 pub mod StreamFaultText
 pub mod StreamSteps

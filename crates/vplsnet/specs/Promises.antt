@@ -33,12 +33,14 @@ use Rattle.flood_laws.specs.Shares.{SharesEach}
 use Rattle.flood_laws.specs.SharesReached.{SharesReachedEach}
 use Rattle.address_laws.specs.Laws.{KnownAreReached, PointsLast}
 use Rattle.move_laws.specs.Laws.{MovesHeal}
+use Rattle.quiet_laws.specs.Laws.{RestsByMeasure}
 use Rattle.report_laws.specs.Places.{IsEntryOf}
 use Rattle.seen_network.specs.Calm.{is_seen_calm}
 use Rattle.seen_network.specs.Once.{OnceSeen}
 use Rattle.seen_network.specs.Seen.{seen_in}
 use Rattle.settle_laws.specs.Laws.{CarriesWhereSound, ComesToCalm, IsCalmWhereSound, IsQuietAtRest, KeepsSound, KeepsSoundChoice}
 use Rattle.flight_laws.specs.Laws.{AgreesAfterFlight, AreSettled, BothStand, FollowsTable, IsStillBetween, IsUp, KeepsLabelRule, KeepsToldRule, network_after}
+use Rattle.vplsnet.specs.Settled.{SettlesAll, SettlesCalm}
 
 -- something holds of each state on the way of a run: before each event, and after the last one
 abbrev pub Throughout : (NetworkState → Type 0) → Plan → List Event → Type 0
@@ -151,6 +153,11 @@ pub record KeepsPromises (plan : Plan) (events : List Event) : Type 0 where
   pub rest : Throughout (IsQuietAtRest plan) plan events
   -- so, at each moment: let octets be delivered alone until no next delivery is left; then a service is calm exactly where it is sound now
   pub comes : AtEachMoment (ComesToCalm plan) events
+  -- signalling comes to rest: no more deliveries follow each other, whichever they are and where nothing else is done, than a number that plan,
+  -- sessions and what is on its way give; so as many next deliveries leave none, and a service calm exactly where it was sound
+  pub rests : Throughout (RestsByMeasure plan) plan events
+  pub settles : AtEachMoment (SettlesAll plan) events
+  pub settles_calm : AtEachMoment (SettlesCalm plan) events
   -- wherever a label is named it was given before, and whoever owns it is the end that it is named with; one that is kept waits for the
   -- neighbour of that end, and so neither rests nor is free
   pub labels : Throughout (KeepsLabelRule plan) plan events
