@@ -6,7 +6,7 @@ Usage: browser.py PAGE [PICTURE]
 Prints, a line each: how many rows are drawn; what the first packet's octets are, once it was clicked; the frames of the rows that
 are shown once the frame's number was clicked; and how many texts overlap another one of their row, or the edge of the page. Needs
 python3-selenium and chromium-driver. Of a page of what-if: how many cases and cells of a fault it has, and whether a click on the
-first such cell opens a ladder with rows.
+first such cell opens the run of its case with a network, and its ladder with rows.
 """
 
 from __future__ import annotations
@@ -81,10 +81,15 @@ def try_cases(browser: Any) -> None:
     print("cases", len(browser.find_elements("css selector", "tbody tr")))
     print("cells", len(browser.find_elements("css selector", "td[data-site]")))
     click(browser, "td[data-site]")
-    frame = browser.find_element("id", "frame")
-    waited_for(lambda: (frame.get_attribute("src") or "").startswith("blob:"))
-    browser.switch_to.frame(frame)
-    print("ladder", bool(waited_for(lambda: browser.find_elements("css selector", "g.row"))))
+    for name, parts in (("network", "g.edge"), ("ladder", "g.row")):
+        browser.switch_to.default_content()
+        click(browser, f"#{name}")
+        frame = browser.find_element("id", f"{name}-page")
+        waited_for(lambda: (frame.get_attribute("src") or "").startswith("blob:"))  # pylint: disable=cell-var-from-loop
+        browser.switch_to.frame(frame)
+        print(name, bool(waited_for(lambda: browser.find_elements("css selector", parts))))  # pylint: disable=cell-var-from-loop
+        if name == "network":
+            print("now", browser.find_element("id", "now").text)
     if len(sys.argv) > 2:
         browser.switch_to.default_content()
         browser.save_screenshot(sys.argv[2])
@@ -99,6 +104,7 @@ def main() -> None:
             for line in browser.get_log("browser"):
                 print("log", line["message"])
             return
+        waited_for(lambda: browser.execute_script("return document.body.dataset.open"))
         print("rows", len(browser.find_elements("css selector", "g.row")))
         print("overlaps", browser.execute_script(OVERLAPS))
         place = browser.execute_script(GO)

@@ -73,8 +73,9 @@ def meeting(browser: Any, events: list[int]) -> list[Any]:
     return found
 
 
-def moved_together(browser: Any, events: list[int]) -> list[list[str]]:
-    """What both pages of a pair show once the first one was moved to each of these events."""
+def moved_together(browser: Any, events: list[int]) -> list[list[Any]]:
+    """What both pages of a pair show once the first one was moved to each of these events, and whether the second one tells differences; and
+    the marks at which they part and meet."""
     frames = browser.find_elements("css selector", "iframe")
 
     def shown(at: int, script: str = "") -> Any:
@@ -88,8 +89,8 @@ def moved_together(browser: Any, events: list[int]) -> list[list[str]]:
         before = shown(1)
         shown(0, f"go({event})")
         waited_for(lambda: shown(1) != before)  # pylint: disable=cell-var-from-loop
-        found.append([shown(0), shown(1)])
-    return found
+        found.append([shown(0), shown(1), shown(1, "return others.length > 0")])
+    return [*found, shown(0, "return run.marks")]
 
 
 def main() -> None:

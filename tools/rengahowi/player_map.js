@@ -221,9 +221,10 @@ function drawPackets(room, flash) {
     seen.set(key, number + 1);
     const [x1, y1, x2, y2] = visible(lineOn(wireOf.get(wire), from, to), from, to), part = (flash.has(name) ? 0.3 : 0.6) - 0.08 * (number % 4);
     const x = x1 + (x2 - x1) * part, y = y1 + (y2 - y1) * part, text = frame === "0" ? "ping" : frame;
-    room.take(x, y, 20, 20);
-    return `<g class="pick packet" data-pick="${frame === "0" ? "" : "frame " + frame}"><circle class="dot" cx="${x}" cy="${y}" r="9" fill="${frameColour(frame)}" stroke="var(--ground)" stroke-width="1.5"/>` +
-      `<text x="${x}" y="${y + 4}" text-anchor="middle" style="fill:#fff;font-weight:bold;font-size:${text.length > 2 ? 9 : 11}px">${text}</text><title>${safe(name)} from ${safe(from)} to ${safe(to)} on ${safe(wire)}, ${frame === "0" ? "ping" : "frame " + frame}</title></g>`;
+    const size = text.length > 2 ? 9 : 11, radius = Math.max(9, widthOf(text, size) / 2 + 4);
+    room.take(x, y, 2 * radius + 2, 2 * radius + 2);
+    return `<g class="pick packet" data-pick="${frame === "0" ? "" : "frame " + frame}"><circle class="dot" cx="${x}" cy="${y}" r="${radius}" fill="${frameColour(frame)}" stroke="var(--ground)" stroke-width="1.5"/>` +
+      `<text x="${x}" y="${y + 4}" text-anchor="middle" style="fill:#fff;font-weight:bold;font-size:${size}px">${text}</text><title>${safe(name)} from ${safe(from)} to ${safe(to)} on ${safe(wire)}, ${frame === "0" ? "ping" : "frame " + frame}</title></g>`;
   }).join("");
 }
 

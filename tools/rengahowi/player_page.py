@@ -87,13 +87,7 @@ def template() -> str:
     return with_scripts(with_note((HERE / "player.html").read_text(encoding="utf-8")), *SCRIPTS)
 
 
-def page(title: str, plan: Plan, report: Report) -> str:
+def page_of_run(title: str, plan: Plan, run: dict[str, Any]) -> str:
     """The page, which is XML too: no text in it begins a tag or an entity."""
     made = template().replace("@TITLE@", as_text(title))
-    return made.replace("@PLAN@", as_script(plan_rows(plan))).replace("@PACKED@", packed(run_rows(plan, report)))
-
-
-def pair(titles: tuple[str, str], pages: tuple[str, str]) -> str:
-    """The page of two runs side by side, which move together."""
-    made = (HERE / "player_pair.html").read_text(encoding="utf-8")
-    return made.replace("@TITLE@", as_text(" against ".join(titles))).replace("@PAGES@", as_script(pages))
+    return made.replace("@PLAN@", as_script(plan_rows(plan))).replace("@PACKED@", packed(run))

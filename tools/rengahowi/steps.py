@@ -20,6 +20,8 @@ What may change is a cell, which has a name of a few words, and its value is a t
 
 from __future__ import annotations
 
+import itertools
+
 from .label_steps import Labels
 from .learned import Learned
 from .network import OPERATIONAL, UP, network_of
@@ -27,7 +29,7 @@ from .report import ALWAYS
 
 TYPE_CHECKING = False
 if TYPE_CHECKING:
-    from collections.abc import Callable
+    from collections.abc import Callable, Sequence
     from typing import Any
 
     from .network import Network
@@ -36,6 +38,7 @@ if TYPE_CHECKING:
 
 # A copy that is dropped for this cause was made by a bridge, which has learned before.
 BEHIND_THE_BRIDGE = "LinkFault"
+OF_PACKETS = ("frame", "arrive", "drop")
 OF_LDP = ("connect", "deliver", "lose", "restart")
 
 
@@ -51,6 +54,14 @@ class Steps:
         self.to: list[int] = []
         self.now: dict[str, str] = {}
         self.before: dict[str, str] = {}  # of what was put since the last event
+
+    @classmethod
+    def of(cls, data: dict[str, Any]) -> Steps:
+        """The steps of their data."""
+        made = cls()
+        made.cells, made.values = ({name: place for place, name in enumerate(data[kind])} for kind in ("cells", "values"))
+        made.begins, made.changed, made.to = [0, *itertools.accumulate(data["counts"])], data["changed"], data["to"]
+        return made
 
     def put(self, name: str, text: str) -> None:
         """A cell has this value from here on."""
@@ -75,7 +86,7 @@ class Steps:
     def behind(self) -> Steps:
         """Steps of which what is so now is so before the first event."""
         made = Steps()
-        made.cells, made.values, made.now = self.cells.copy(), self.values.copy(), self.now.copy()
+        made.now = self.now.copy()
         for name, text in self.now.items():
             made.changed.append(made.cells.setdefault(name, len(made.cells)))
             made.to.append(made.values.setdefault(text, len(made.values)))
@@ -121,18 +132,51 @@ class Follower:
 
     def follow(self, rows: list[list[str]], keeps: Callable[[int], bool] = lambda place: True) -> Steps:
         """Follows all lines. What an event changes that is not kept is told with the next one that is."""
-        is_kept = True
-        for place, row in enumerate(rows):
+        is_kept = len(self.steps.begins) == 1  # else what is so before the first event is told already
+        place, whole = 0, len(rows)
+        while place < whole:
+            row = rows[place]
             if row[0] == ">":
                 self.end_event(is_kept)
                 is_kept = keeps(place)
-                is_told = place + 1 < len(rows) and rows[place + 1][0] == "idle" and row[1] not in ALWAYS
+                if not is_kept and row[1] in OF_PACKETS:
+                    place = self.pass_by(rows, place, keeps)
+                    continue
+                is_told = place + 1 < whole and rows[place + 1][0] == "idle" and row[1] not in ALWAYS
                 if not self.network.is_idle(is_told, row[1], row[2:]):
                     self.begin(row[1], row[2:])
             else:
                 self.take(row)
+            place += 1
         self.end_event(is_kept)
         return self.steps
+
+    def pass_by(self, rows: list[list[str]], place: int, keeps: Callable[[int], bool]) -> int:
+        """Goes past frames and packets that are not kept, of which no more is told than what bridges hear by them; answers where it stopped."""
+        under, mine = self.network.packets, set[str]()
+        while place < len(rows):
+            row = rows[place]
+            kind = row[0]
+            if kind == ">":
+                self.hear()
+                if row[1] not in OF_PACKETS or keeps(place):
+                    break
+                if row[1] != "frame":
+                    packet = under.pop(row[2], None)
+                    if row[2] not in mine:
+                        self.steps.put(f"packet {row[2]}", "")
+                    if row[1] == "arrive":
+                        self.arrive(packet)
+            elif kind == "sent":
+                under[row[1]] = row[2:7]
+                mine.add(row[1])
+            elif kind != "left":
+                self.take(row)
+            place += 1
+        self.hear()
+        for name in mine & under.keys():
+            self.steps.put(f"packet {name}", " ".join(under[name]))
+        return place
 
     def put_all(self) -> None:
         """What is so before the first event."""
@@ -162,13 +206,23 @@ class Follower:
             self.tick()
         elif kind in ("arrive", "drop"):
             self.steps.put(f"packet {words[0]}", "")
-            if sent is not None and sent[4] in self.sources and sent[1] in self.plan.wires[sent[2]].ends():
-                self.hears = self.plan.wires[sent[2]].service, sent[1], self.sources[sent[4]], sent[2]
+            self.arrive(sent)
         elif kind == "circuit":
             self.steps.put(f"circuit {words[0]}", words[1])
             if words[1] == "off":
                 row = self.plan.circuits[words[0]]
                 self.forget(row["service"], row["edge"], words[0])
+
+    def arrive(self, packet: Sequence[str] | None) -> None:
+        """A packet comes to its edge; a switching point hears nothing by it."""
+        if packet is not None and packet[4] in self.sources and packet[1] in self.plan.wires[packet[2]].ends():
+            self.hears = self.plan.wires[packet[2]].service, packet[1], self.sources[packet[4]], packet[2]
+
+    def hear(self) -> None:
+        """What a bridge hears by an event it learns."""
+        if self.hears is not None and len(self.hears[2]) == len("020000000001"):
+            self.learn(*self.hears)
+        self.hears = None
 
     def touch(self, kind: str, words: list[str]) -> None:
         """The connections of which an event puts or takes octets, or whose sessions may change by it."""
@@ -211,9 +265,7 @@ class Follower:
 
     def end_event(self, is_kept: bool) -> None:
         """What is so behind an event."""
-        if self.hears is not None and len(self.hears[2]) == len("020000000001"):
-            self.learn(*self.hears)
-        self.hears = None
+        self.hear()
         for a, b in self.touched:
             if (a, b) in self.network.pipes:
                 octets = self.network.pipes[a, b].octets()
@@ -232,6 +284,8 @@ class Follower:
 
     def learn(self, service: str, edge: str, address: str, port: str) -> None:
         """A bridge hears an address."""
+        if self.learned.bridges[service].get(edge, {}).get(address) == (port, self.learned.ticks):
+            return
         self.learned.learn(service, edge, address, port)
         found = self.learned.bridges[service].get(edge, {}).get(address)
         if found == (port, self.learned.ticks):

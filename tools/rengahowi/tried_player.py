@@ -5,18 +5,20 @@ from __future__ import annotations
 import json
 
 from .at_event import AtEvent
-from .plan import read_plan
+from .cases import Base
+from .failures import cases_of
+from .plan import plan_of, read_plan
+from .program import UNPROVED
 from .report import read_report
-from .steps import steps_of
-from .trying import TOP, compare, driver, tool
+from .steps import Steps, steps_of
+from .trying import TOP, compare, driver, tool, unpacked
+from .what_if_page import followed, ladder_of
 
 TYPE_CHECKING = False
 if TYPE_CHECKING:
     import pathlib
     from collections.abc import Callable, Iterator
     from typing import Any
-
-    from .steps import Steps
 
 EXAMPLES = TOP / "examples"
 # What is looked at behind which events, in the page: 22 of four runs; and of one of them what is chosen there.
@@ -50,6 +52,8 @@ def players(folder: pathlib.Path, _gone: set[str]) -> Iterator[Any]:
     for name in ("old-way", "restart", "ageing", "mesh-over-chain", "label-comes-back"):
         yield from whole_run(name)
     yield compare("player, a number that comes back", list(history("label-comes-back", "label a 1048575")), NUMBER)
+    yield from cases(folder)
+    yield from kept_pages()
     yield from in_browser(folder)
     yield from refused(folder)
 
@@ -97,6 +101,38 @@ def whole_run(name: str) -> Iterator[Any]:
     yield compare(f"player, {name} behind each event", wrong, [])
 
 
+def cases(folder: pathlib.Path) -> Iterator[Any]:
+    """The run of a case of what-if, of which frames are left out, has the state of `tables` behind the events that it keeps."""
+    text = (EXAMPLES / "spoke-moves.toml").read_text(encoding="utf-8")
+    plan, path = plan_of(text, "spoke-moves.toml"), folder / "case.toml"
+    base = Base(plan, text, plan.events[: plan.events.index("priority x xb 5")])
+    follower = followed(plan, base.front)
+    for case in cases_of(plan, base.network, ["session", "restart"]):
+        if case.name not in ("lose a c", "restart a"):
+            continue
+        tried = base.try_case(case, folder)
+        run = unpacked(ladder_of(base, follower, case, tried.reading, tried.lines)["packed"])["run"]
+        path.write_text(base.spliced.with_events(base.all_events(tried.events)), encoding="utf-8")
+        at, first = AtEvent(str(path), "end"), follower.steps.data()
+        found = list(states(Steps.of({name: [*first[name], *run["steps"][name]] for name in first})))
+        events, behind = list(at.events), list(zip(run["numbers"], found))
+        wrong = [number for number, state in behind[::3] if as_tables(state) != tables_of(at, events, number)]
+        yield compare(f"what-if, the run of {case.name}", (len(found), wrong), (len(run["numbers"]), []))
+
+
+def parts_of(page: str) -> tuple[str, Any]:
+    """A page without the note that nothing is proved and without what is packed, and what that is: what is packed may differ by the library."""
+    packed = page.partition('<script id="packed" type="application/json">')[2].partition("</script>")[0]
+    return page.replace(packed, "").replace(UNPROVED, ""), unpacked(packed)
+
+
+def kept_pages() -> Iterator[Any]:
+    """The pages that stand beside the examples are what the tool writes."""
+    for path in sorted((EXAMPLES / "pages").glob("*.html")):
+        made = tool("player", EXAMPLES / f"{path.stem}.toml", EXAMPLES / f"{path.stem}.txt")[1]
+        yield compare(f"the page of {path.stem}", parts_of(path.read_text(encoding="utf-8")) == parts_of(made), True)
+
+
 def history(name: str, cell: str) -> Iterator[tuple[int, str]]:
     """The values of a cell, each with the event that it is of."""
     plan = read_plan(EXAMPLES / f"{name}.toml")
@@ -139,11 +175,16 @@ def in_browser(folder: pathlib.Path) -> Iterator[Any]:
 
 
 def side_by_side(folder: pathlib.Path, python: Callable[..., str]) -> Iterator[Any]:
-    """Two runs move together: to the same command, and as many events behind it."""
+    """Two runs move together: to the same command, and as many events behind it. They part where the one has its frame before all is
+    delivered, and are the same once that is, behind the last command of both."""
     page, words = folder / "pair.html", (EXAMPLES / "old-way.toml", EXAMPLES / "old-way.txt", "--against", EXAMPLES / "spoke-moves.txt")
     page.write_text(tool("player", *words, "--scenario", EXAMPLES / "spoke-moves.toml")[1], encoding="utf-8")
     seen = json.loads(python("rengahowi.player_browser", page, "5", "38") or "{}")
-    right = [["5: connect b x (of 48)", "5: connect b x (of 45)"], ["38: arrive 6 (of 48)", "43: arrive 6 (of 45)"]]
+    right = [
+        ["5: connect b x (of 48)", "5: connect b x (of 45)", False],
+        ["38: arrive 6 (of 48)", "43: arrive 6 (of 45)", True],
+        [[36, "from this command on the runs differ"], [45, "the runs are the same again"]],
+    ]
     yield compare("player --against", (seen.get("both"), seen.get("log")), (right, []))
     status, said, fault = tool("player", *words[:2], "--scenario", words[0])
     yield compare("player --scenario alone", (status, said, "--against" in fault, fault.count("\n")), (1, "", True, 1))

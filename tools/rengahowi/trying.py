@@ -2,6 +2,8 @@
 
 from __future__ import annotations
 
+import base64
+import gzip
 import json
 import pathlib
 import shlex
@@ -85,7 +87,12 @@ def boxes_in(picture: Any) -> tuple[Any, ...]:
 def rows_in(page: Any) -> Any:
     """The rows of a ladder; the page has to be XML."""
     scripts = xml.etree.ElementTree.fromstring(page).iter(f"{HTML}script")
-    return json.loads(next(script.text or "" for script in scripts if script.get("id") == "data"))["rows"]
+    return unpacked(next(script.text or "" for script in scripts if script.get("id") == "data"))["rows"]
+
+
+def unpacked(text: str) -> Any:
+    """What a page has packed."""
+    return json.loads(gzip.decompress(base64.b64decode(text)))
 
 
 def capture_seen(call: Any, folder: str | pathlib.Path) -> tuple[Any, ...]:

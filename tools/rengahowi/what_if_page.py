@@ -1,17 +1,18 @@
-"""The cases of a plan as one page for a browser: a matrix of cases and sites, whose cells open the ladder of their case."""
+"""The cases of a plan as one page for a browser: a matrix of cases and sites, whose cells open the run of their case event by event, and
+its ladder."""
 
 from __future__ import annotations
 
-import base64
-import json
 import pathlib
-import zlib
 
+from . import player_page
 from .colours import of_service
-from .embedding import as_script, as_text
+from .embedding import as_script, as_text, packed, with_scripts
 from .ladder_rows import Rows, columns, lanes
+from .network import UNTOLD, network_of
 from .program import with_note
 from .report import Words, events_of
+from .steps import Follower
 from .whys import why
 
 TYPE_CHECKING = False
@@ -22,15 +23,26 @@ if TYPE_CHECKING:
     from .cases import Base
     from .failures import Case
     from .network import Network
+    from .plan import Plan
     from .report import Event
 
 HERE = pathlib.Path(__file__).resolve().parent
-PAGE, LADDER = HERE / "what_if.html", HERE / "ladder.html"
+PAGE, LADDER, LADDER_SCRIPTS = HERE / "what_if.html", HERE / "ladder.html", ("unpacked.js", "ladder.js")
+# What stands before the lines of a case in its page, and what each event begins with.
+LEFT_OUT, BEGINS = "(what all cases begin with; between the events that follow are frames that all came once, which are left out)", b"\n> "
 
 
-def ladder_of(base: Base, case: Case, reading: Reading, lines: list[str]) -> dict[Any, Any]:
-    """The ladder of a case, packed: what switches and is delivered, and of the frames that something is wrong with the first one of
-    each phase and site. And for each site the first of those frames, why it went wrong in words, and the columns that show it."""
+def followed(plan: Plan, front: bytes) -> Follower:
+    """Who follows the reports of cases: it stands where the lines that all of them begin with end."""
+    rows = [line.split(" ") for line in front.decode().splitlines()[1:]]
+    follower = Follower(plan, network_of(plan, rows))
+    follower.follow(rows)
+    return follower.behind()
+
+
+def ladder_of(base: Base, follower: Follower, case: Case, reading: Reading, lines: list[str]) -> dict[str, Any]:
+    """The ladder of a case and its run, packed: what switches and is delivered, and of the frames that something is wrong with the first one
+    of each phase and site. And for each site the first of those frames, its event, why it went wrong in words, and the columns that show it."""
     chosen: dict[tuple[str, str], int] = {}
     of_site: dict[str, tuple[int, str, str]] = {}
     for frame in reading.faulty:
@@ -38,7 +50,7 @@ def ladder_of(base: Base, case: Case, reading: Reading, lines: list[str]) -> dic
             for site in sites:
                 if chosen.setdefault((frame.phase, site), frame.number) == frame.number:
                     of_site.setdefault(site, (frame.number, kind, frame.circuit))
-    kept, origins = kept_lines(lines, set(chosen.values()))
+    kept, origins, places = kept_lines(lines, set(chosen.values()))
     first = base.front.count(b"\n")
     words = Words(base.plan, case.name)
     events = events_of(words, ((first + 1 + place, text) for place, text in kept), 1)
@@ -46,16 +58,31 @@ def ladder_of(base: Base, case: Case, reading: Reading, lines: list[str]) -> dic
     rows = Rows(base.plan, events, [], base.network.copy())
     found = rows.make()
     changed = {place: lane["states"] for place, lane in enumerate(rows.lanes) if len(lane["states"]) > 1}
-    text = json.dumps({"rows": found, "lanes": changed}, separators=(",", ":"))
+    numbers = [event.number for event in events]
+    run = {
+        **run_of(follower, lines, kept),
+        "names": [row["t"] for row in found if row["k"] in ("said", "hello")],
+        "frames": {origins[row.number]: player_page.verdict(row.twice + row.back, row.never, False) for row in reading.faulty if row.number in origins},
+        "numbers": [base.front.count(BEGINS), *numbers],
+    }
+    number_at = dict(zip([place for place, text in kept if text.startswith("> ")], numbers))
     of_frame = lines_of_frames(lines, {number for number, _, _ in of_site.values()})
     return {
-        "packed": base64.b64encode(zlib.compress(text.encode(), 9)).decode(),
+        "packed": packed({"rows": found, "lanes": changed, "run": run}),
         "frames": {
-            site: [origins[number], *why(base.network, of_frame[number], kind, circuit, site)]
+            site: [origins[number], number_at[places[number]], *why(base.network, of_frame[number], kind, circuit, site)]
             for site, (number, kind, circuit) in of_site.items()
             if number in origins
         },
     }
+
+
+def run_of(follower: Follower, lines: list[str], kept: list[tuple[int, str]]) -> dict[str, Any]:
+    """The run of a case: what is so behind each event that is kept, all others before it done, and the lines of those."""
+    begins = {place for place, text in kept if text.startswith("> ")}
+    own = follower.behind()
+    steps = own.follow([line.split(" ") for line in lines if not line.startswith("end ")], begins.__contains__)
+    return {"steps": steps.data(follower.steps), "report": "\n".join([LEFT_OUT, *(text for _, text in kept)])}
 
 
 def lines_of_frames(lines: list[str], wanted: set[int]) -> dict[int, list[str]]:
@@ -72,21 +99,23 @@ def lines_of_frames(lines: list[str], wanted: set[int]) -> dict[int, list[str]]:
     return found
 
 
-def kept_lines(lines: list[str], wanted: Any) -> tuple[Any, ...]:
+def kept_lines(lines: list[str], wanted: Any) -> tuple[list[tuple[int, str]], dict[int, int], dict[int, int]]:
     """The lines of a ladder, each with its place: events without packets that apply, and the frames that are wanted, by their
-    number among the frames; and the origin of each of those."""
-    kept, origins, frames, keeps = [], {}, 0, False
+    number among the frames; and the origin of each of those, and the place of its event."""
+    kept, frames, keeps = list[tuple[int, str]](), 0, False
+    origins, places = dict[int, int](), dict[int, int]()
     for place, text in enumerate(lines):
         if text.startswith("> frame "):
             frames += 1
             keeps = frames in wanted
+            places[frames] = place
         elif text.startswith("> ") and not text.startswith(("> arrive ", "> drop ")):
             keeps = lines[place + 1 : place + 2] != ["idle"]
         elif text.startswith("in ") and keeps:
             origins[frames] = int(text.split(" ")[2])
         if keeps and not text.startswith("end "):
             kept.append((place, text))
-    return kept, origins
+    return kept, origins, places
 
 
 def number_events(events: list[Event], kept: Any, lines: list[str], before: Any) -> None:
@@ -100,7 +129,7 @@ def number_events(events: list[Event], kept: Any, lines: list[str], before: Any)
         event.number = numbers[place]
 
 
-def part_of(base: Base, found: dict[str, Any], ladders: list[Any]) -> dict[str, Any]:
+def part_of(base: Base, follower: Follower, found: dict[str, Any], ladders: list[Any]) -> dict[str, Any]:
     """What the page has of a scenario."""
     plan = base.plan
     shared = {
@@ -109,14 +138,20 @@ def part_of(base: Base, found: dict[str, Any], ladders: list[Any]) -> dict[str, 
         "services": {name: of_service(plan, name) for name in plan.services},
         "wires": {wire.name: wire.service for wire in plan.wires.values()},
         "ending": "",
+        "player": packed({
+            "plan": player_page.plan_rows(plan),
+            "steps": follower.steps.data(),
+            "told": follower.network.sessions_by != UNTOLD,
+            "begin": f"behind the set-up and the first frames, which are events 1 to {base.front.count(BEGINS)}",
+        }),
     }
     return {**found, "colours": shared["services"], "ladders": ladders, "shared": shared}
 
 
 def page(parts: list[dict[str, Any]]) -> str:
     """The page of one scenario, or of two side by side."""
-    data = {"plans": parts, "page": with_note(LADDER.read_text(encoding="utf-8"))}
-    text = with_note(PAGE.read_text(encoding="utf-8"))
+    data = {"plans": parts, "ladder": with_scripts(with_note(LADDER.read_text(encoding="utf-8")), *LADDER_SCRIPTS), "player": player_page.template()}
+    text = with_scripts(with_note(PAGE.read_text(encoding="utf-8")), "unpacked.js")
     title = " and ".join(part["scenario"] for part in parts)
     return text.replace("@TITLE@", as_text(title)).replace("@DATA@", as_script(data))
 
