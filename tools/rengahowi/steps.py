@@ -174,7 +174,7 @@ class Follower:
                 self.take(row)
             place += 1
         self.hear()
-        for name in mine & under.keys():
+        for name in sorted(mine & under.keys()):
             self.steps.put(f"packet {name}", " ".join(under[name]))
         return place
 
@@ -266,7 +266,7 @@ class Follower:
     def end_event(self, is_kept: bool) -> None:
         """What is so behind an event."""
         self.hear()
-        for a, b in self.touched:
+        for a, b in sorted(self.touched):
             if (a, b) in self.network.pipes:
                 octets = self.network.pipes[a, b].octets()
                 self.steps.put(f"octets {a} {b}", str(octets) if octets else "")
