@@ -35,7 +35,7 @@ LOUD = [kind for kind in KINDS if kind != "silent"]
 MOVES = ("spoke-moves", "priority x xb 5")
 # Where the first cell of its page is opened, in `lose a c`: the 13th frame enters by event 66, behind the 59 events that all cases begin with
 # and the failure, and four others.
-OPENED = "66: frame cc ffffffffffff02000000000188b5"
+OPENED = "66: frame cc ffffffffffff02000000000188b5 (of 190)"
 # A scenario, its first event behind the set-up, a case, and its row as it is counted by hand: who lost whom, the rounds, and how many
 # frames never came to whom while the failure stood. Frames for known stations go round: to the next circuit of the service.
 BY_HAND = [
