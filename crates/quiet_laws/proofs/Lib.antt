@@ -1,4 +1,5 @@
 pub mod CostLemmas
+pub mod Examples
 pub mod FallLemmas
 pub mod NetworkLemmas
 pub mod RunLemmas
