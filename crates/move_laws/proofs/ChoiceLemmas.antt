@@ -23,23 +23,23 @@ use Rattle.flight_laws.proofs.SayLemmas.{says_none}
 use Rattle.flight_laws.proofs.SpokenLemmas.{says_spoken}
 use Rattle.flight_laws.proofs.SteadyLemmas.{advertised_up, end_small}
 use Rattle.flight_laws.proofs.WorkLemmas.{same_end}
-use Rattle.flight_laws.specs.Bound.{some_message}
 use Rattle.flight_laws.specs.Ends.{HasTypes, ends_at}
 use Rattle.flight_laws.specs.Facts.{flight}
 use Rattle.flight_laws.specs.Meeting.{said_to}
 use Rattle.flight_laws.specs.Messages.{octets_of_all}
 use Rattle.flight_laws.specs.Sound.{point_limit}
-use Rattle.flight_laws.proofs.BindingLemmas.{some_last}
-use Rattle.move_laws.specs.Moves.{has_short_spokes}
+use Rattle.flight_laws.proofs.RuledMendLemmas.{wire_fits}
 use Rattle.ldp_grammar.specs.declared.message.Message.{Message}
 use Rattle.flood_laws.proofs.ChoiceLemmas.{IsChoice, all_get, choice_is}
-use Rattle.move_laws.proofs.ForwardLemmas.{advertises_it}
-use Rattle.move_laws.proofs.PendingLemmas.{tells_on}
+use Rattle.move_laws.proofs.ForwardLemmas.{advertises_it, forwards_whole}
+use Rattle.move_laws.proofs.HearingLemmas.{bound_on, bound_sooner, cleared_last, met_joined}
+use Rattle.move_laws.proofs.LastLemmas.{Holds, rows_hold}
+use Rattle.move_laws.proofs.PendingLemmas.{of_service_joined, spoke_ours, tells_on}
 use Rattle.move_laws.proofs.SpeakLemmas.{Speaks, said_more, speaks_first}
 use Rattle.move_laws.proofs.StayLemmas.{rows_speak}
-use Rattle.move_laws.proofs.WireLemmas.{IsSpokeLink, spoke_link}
-use Rattle.move_laws.specs.Clearing.{clears}
-use Rattle.move_laws.specs.Healing.{HasWays, IsSpokeTo, Stays, TellsChoice, WillTell, is_advertising}
+use Rattle.move_laws.proofs.WireLemmas.{service_is}
+use Rattle.move_laws.specs.Clearing.{IsOnward, clears, is_bound_by, is_cleared_by, takes_clearing}
+use Rattle.move_laws.specs.Healing.{HasWays, IsMet, IsSeen, IsSpokeTo, IsSteady, OfMesh, OfSpoke, SpeaksMildly, Stays, TellsChoice, TellsNext, WillTell, advertises_to, is_advertising}
 use Rattle.net_base.specs.declared.plan.Plan.{Plan}
 use Rattle.net_base.specs.declared.plan.places.EdgeId.{EdgeId}
 use Rattle.net_base.specs.declared.plan.places.ServiceId.{ServiceId}
@@ -48,12 +48,14 @@ use Rattle.net_base.specs.declared.plan.wire_plan.WirePlan.{WirePlan}
 use Rattle.net_base.specs.declared.trace.down.Down.{Down}
 use Rattle.net_values.specs.declared.addr.Addr.{Addr}
 use Rattle.net_values.specs.declared.mac.Mac.{Mac}
-use Rattle.net_values.proofs.BoolLemmas.{clash, now_and_not_was}
+use Rattle.net_values.proofs.BoolLemmas.{clash, now_and_not_was, second_holds}
 use Rattle.net_values.proofs.NumberLemmas.{same_number}
 use Rattle.net_base.specs.plan.Accepted.{IsChecked}
-use Rattle.net_base.specs.plan.Paths.{joins}
-use Rattle.net_base.specs.plan.Places.{wire_row}
-use Rattle.net_base.specs.plan.Roles.{are_joined_by}
+use Rattle.net_base.specs.plan.Paths.{follows, is_first, is_last, joins}
+use Rattle.net_base.specs.plan.Places.{is_mesh_class, wire_row}
+use Rattle.net_base.specs.plan.Roles.{are_joined_by, is_wire_of}
+use Rattle.network_model.proofs.GoalLemmas.{begins_first}
+use Rattle.network_model.proofs.WayLemmas.{joins_is}
 use Rattle.network_model.specs.Absorb.{taken_all}
 use Rattle.network_model.specs.State.{NetworkState, stands}
 use Rattle.pw_signalling.proofs.LawLemmas.{forwards_where_both_agree}
@@ -63,9 +65,8 @@ use Rattle.pw_signalling.specs.declared.end_role.EndRole.TheVariants as role
 use Rattle.pw_signalling.specs.declared.told.Told.{Told}
 use Rattle.pw_tlvs.specs.declared.pw_status.PwStatus.{PwStatus}
 use Rattle.session_core.specs.declared.peers.Peers.{Peers}
-use Rattle.std.proofs.Common.{Bool, List, None, Option, Some, [], ap, append_assoc, arith, cond, false, inl, inr, refl, slice_get, subst, suc, sym, true, zero, ℕ, ◌&&◌, ◌++◌, ◌==◌, ◌||◌, ◌∙◌, ◌∷◌, ◌≡◌, ◌⊎◌}
-use Rattle.std.proofs.lemmas.Bool.Decides.{nat_tests}
-use Rattle.std.proofs.lemmas.Bool.{cases_Bool, eqb-true}
+use Rattle.std.proofs.Common.{Bool, List, None, Option, Some, [], ap, append_assoc, cond, false, inl, inr, refl, slice_get, subst, suc, sym, true, zero, ℕ, ◌&&◌, ◌++◌, ◌==◌, ◌||◌, ◌∙◌, ◌∷◌, ◌≡◌, ◌⊎◌, is_some, not}
+use Rattle.std.proofs.lemmas.Bool.{cases_Bool, eqb-true, or_right}
 use Rattle.std.specs.List.{AllByRecursion}
 
 -- ---- what telling leaves
@@ -202,6 +203,7 @@ module _ (plan : Plan) (service : ServiceId) (network : NetworkState) (me : Edge
     speaks = speaks.speaks;
     apart = speaks.apart;
     mesh = speaks.mesh;
+    spokes = speaks.spokes;
     more = λ place joined there. record { more = []; is = sym (same_end (said_to place work.effects)); said = tt };
   }
 
@@ -222,22 +224,42 @@ module _ (plan : Plan) (service : ServiceId) (network : NetworkState) (me : Edge
   joined_all : (xs ys : List Message) (m : Message) → (xs ++ ys) ++ m ∷ [] ≡ xs ++ (ys ++ m ∷ [])
   joined_all xs ys m = append_assoc xs ys (m ∷ [])
 
+  -- who hears it takes it, once it has heard what was said before
+  takes_it : (work : Work) (place : EndPlace) (end : IsEndOf plan me place) → IsSeen plan service network me.0 place.peer.0 place.wire end.row
+      → advertises_to work.edge place.peer.0 place.wire.0 ≡ true
+      → (steady : IsSteady plan service network me.0 place.peer.0) (mildly : SpeaksMildly plan service network me.0 peer place.peer.0 work (advertises_to work.edge place.peer.0))
+      → is_bound_by end.row.pw_id (takes_clearing (network.edges place.peer.0) end.row place.wire.0 me.0 place.peer.0) (steady.way.messages ++ mildly.messages) ≡ true
+  takes_it work place end (OfMesh mesh) told steady mildly =
+      ap (λ (m : Bool). is_bound_by end.row.pw_id ((m || (is_first place.peer.0 end.row.path || is_last place.peer.0 end.row.path)) || is_some
+      ((network.edges place.peer.0).ends place.wire.0 me.0).remote)
+      (steady.way.messages ++ mildly.messages)) (second_holds (is_wire_of service end.row) (is_mesh_class end.row.class) mesh)
+      ∙ bound_on end.row.pw_id (steady.way.messages ++ mildly.messages)
+  takes_it work place end (OfSpoke onward) told steady mildly =
+      let held : Bool = is_some ((network.edges place.peer.0).ends place.wire.0 me.0).remote in
+      let met : IsMet end.row.pw_id held (steady.way.messages ++ mildly.messages) (advertises_to work.edge place.peer.0 place.wire.0) =
+      met_joined end.row.pw_id held (is_advertising ((network.edges me.0).ends place.wire.0 place.peer.0).local) (advertises_to work.edge place.peer.0 place.wire.0) steady.way.messages mildly.messages
+      (steady.met place.wire end.row onward) (mildly.met place.wire end.row onward) in
+      bound_sooner end.row.pw_id held (takes_clearing (network.edges place.peer.0) end.row place.wire.0 me.0 place.peer.0) (steady.way.messages ++ mildly.messages)
+      (or_right (is_mesh_class end.row.class || (is_first place.peer.0 end.row.path || is_last place.peer.0 end.row.path)) held) (met.agrees ∙ told)
+
   -- by an end that advertises
-  pub piece_tells : (base : Work) (place : EndPlace) (label : ℕ) (content : Told) (work : Work) → IsEndOf plan me place → are_joined_by plan service me.0 place.peer.0 ≡ true
-      → (end_at work.edge place).local ≡ Advertised label content
-      → Speaks plan service network me peer base work → WillTell plan service network me.0 place.peer.0 place.pw_id (says taken_all place.peer (mac_withdrawal place.pw_id [] content) work).work
-  piece_tells base place label content work end joined at speaks =
+  pub piece_tells : (base : Work) (place : EndPlace) (label : ℕ) (content : Told) (work : Work) (end : IsEndOf plan me place) → IsSeen plan service network me.0 place.peer.0 place.wire end.row
+      → are_joined_by plan service me.0 place.peer.0 ≡ true → (end_at work.edge place).local ≡ Advertised label content
+      → Speaks plan service network me peer base work → WillTell plan service network me.0 place.peer.0 place.wire end.row (says taken_all place.peer (mac_withdrawal place.pw_id [] content) work).work
+  piece_tells base place label content work end seen joined at speaks =
       let can = advertised_up (point_limit plan me.0 place.wire.0) (is_up_with (work.edge.peering place.peer.0)) (end_at work.edge place) label content
       (speaks.sound.ends place.wire.0 place.peer.0) at in
       let there : stands network me.0 place.peer.0 ≡ true = stood base work speaks place.peer.0 joined can.0 in
       let mildly = speaks.speaks place.peer.0 joined there in
-      let way = ways place.peer.0 joined there in
+      let steady = ways place.peer.0 joined there in
+      let way = steady.way in
       let own : Peers = ends_at plan me.0 place.peer.0 in
       let message : ℕ → Message = mac_withdrawal place.pw_id [] content in
       let m : Message = message mildly.kept.next_id in
       let spoken = says_spoken place.peer mildly.kept message work mildly.at in
       let of_wires : IsOfWires message = clearance_is place.pw_id label [] content (end_small plan me place checked end) none_are_piece can.1 in
       let said = spoken.said ∙ said_more plan service network me peer own [] (said_to place.peer.0 work.effects) mildly.kept message mildly.messages mildly.peers mildly.is in
+      let clear : clears end.row.pw_id m ≡ true = subst (λ (n : ℕ). clears n m ≡ true) end.pw_id (cleared_by place.pw_id content mildly.kept.next_id) in
       record {
         joined = joined;
         there = there;
@@ -245,176 +267,208 @@ module _ (plan : Plan) (service : ServiceId) (network : NetworkState) (me : Edge
           messages = way.messages ++ (mildly.messages ++ m ∷ []);
           is = said_with own.me (flight network me.0 place.peer.0) _ way.messages (mildly.messages ++ m ∷ []) way.is said;
           said = said-append own way.messages (mildly.messages ++ m ∷ []) way.said (said-append own mildly.messages (m ∷ []) mildly.said (of_wires.said own mildly.kept.next_id mildly.numbered, tt));
-          among = subst (λ (ms : List Message). some_message (clears place.pw_id) ms ≡ true) (joined_all way.messages mildly.messages m)
-              (some_last (clears place.pw_id) (way.messages ++ mildly.messages) m (cleared_by place.pw_id content mildly.kept.next_id));
+          among = subst (λ (ms : List Message). is_cleared_by end.row.pw_id (takes_clearing (network.edges place.peer.0) end.row place.wire.0 me.0 place.peer.0) ms ≡ true)
+              (joined_all way.messages mildly.messages m)
+              (cleared_last end.row.pw_id (takes_clearing (network.edges place.peer.0) end.row place.wire.0 me.0 place.peer.0) (way.messages ++ mildly.messages) m
+              (takes_it work place end seen (ap is_advertising at) steady mildly) clear);
         };
       }
 
-  module _ (short : has_short_spokes plan service ≡ true) where
-    speaks_rows : (base : Work) → KeptByRows plan me (Speaks plan service network me peer base)
-    speaks_rows base = rows_speak plan service me checked types network peer base
+  speaks_rows : (base : Work) → KeptByRows plan me (Speaks plan service network me peer base)
+  speaks_rows base = rows_speak plan service me checked types network peer base
 
-    -- what was told before all other ends is told after them
-    grown : (before : ℕ → Option WireId) (n place : ℕ) (places : List EndPlace) → AllByRecursion (IsEndOf plan me) places → (m : Spoken) → At m.work → WillTell plan service network me.0 place n m.work
-        → WillTell plan service network me.0 place n (each_end (mends_choice plan taken_all before) places m).work
-    grown before n place places all m speaks tells =
-        let after : Work = (each_end (mends_choice plan taken_all before) places m).work in
-        let more : Speaks plan service network me peer m.work after =
-        each_keeps plan me (Speaks plan service network me peer m.work) (speaks_rows m.work) (mends_choice plan taken_all before)
-        (choice_keeps plan me (Speaks plan service network me peer m.work) (speaks_rows m.work) before) places all m speaks in
-        tells_on plan service network me.0 place n m.work after (more.more place tells.joined tells.there) tells
+  -- what was told before all other ends is told after them
+  grown : (before : ℕ → Option WireId) (place : ℕ) (wire : WireId) (row : WirePlan) (places : List EndPlace) → AllByRecursion (IsEndOf plan me) places → (m : Spoken) → At m.work
+      → WillTell plan service network me.0 place wire row m.work
+      → WillTell plan service network me.0 place wire row (each_end (mends_choice plan taken_all before) places m).work
+  grown before place wire row places all m speaks tells =
+      let after : Work = (each_end (mends_choice plan taken_all before) places m).work in
+      let more : Speaks plan service network me peer m.work after =
+      each_keeps plan me (Speaks plan service network me peer m.work) (speaks_rows m.work) (mends_choice plan taken_all before)
+      (choice_keeps plan me (Speaks plan service network me peer m.work) (speaks_rows m.work) before) places all m speaks in
+      tells_on plan service network me.0 place wire row m.work after (more.more place tells.joined tells.there) tells
 
-    module _ (before : ℕ → Option WireId) (place : EndPlace) (end : IsEndOf plan me place) (joined : are_joined_by plan service me.0 place.peer.0 ≡ true) where
-      here_tells : (work : Work) → At work → is_advertising (end_at work.edge place).local ≡ true → is_new_choice before work.edge.chosen place.wire (wire_row plan place.wire) ≡ true
-          → WillTell plan service network me.0 place.peer.0 place.pw_id (mends_choice plan taken_all before place work).work
-      here_tells work speaks told new = subst (λ (b : Bool). WillTell plan service network me.0 place.peer.0 place.pw_id (cond b (tells_piece taken_all place [] work) (stays work)).work) (sym new) (by_local (end_at work.edge place).local refl told) where
-        by_local : (local : LocalPart) → (end_at work.edge place).local ≡ local → is_advertising local ≡ true
-            → WillTell plan service network me.0 place.peer.0 place.pw_id (tells_piece_by taken_all place [] local work).work
-        by_local (Idle declined) at told = clash told
-        by_local (Advertised label content) at told = piece_tells work place label content work end joined at speaks
-        by_local (Withdrawing label) at told = clash told
+  module _ (before : ℕ → Option WireId) (place : EndPlace) (end : IsEndOf plan me place) (joined : are_joined_by plan service me.0 place.peer.0 ≡ true)
+      (seen : IsSeen plan service network me.0 place.peer.0 place.wire end.row) where
+    here_tells : (work : Work) → At work → is_advertising (end_at work.edge place).local ≡ true → is_new_choice before work.edge.chosen place.wire (wire_row plan place.wire) ≡ true
+        → WillTell plan service network me.0 place.peer.0 place.wire end.row (mends_choice plan taken_all before place work).work
+    here_tells work speaks told new = subst (λ (b : Bool). WillTell plan service network me.0 place.peer.0 place.wire end.row (cond b (tells_piece taken_all place [] work) (stays work)).work)
+        (sym new) (by_local (end_at work.edge place).local refl told) where
+          by_local : (local : LocalPart) → (end_at work.edge place).local ≡ local → is_advertising local ≡ true
+              → WillTell plan service network me.0 place.peer.0 place.wire end.row (tells_piece_by taken_all place [] local work).work
+          by_local (Idle declined) at told = clash told
+          by_local (Advertised label content) at told = piece_tells work place label content work end seen joined at speaks
+          by_local (Withdrawing label) at told = clash told
 
-      each_tells : (places : List EndPlace) → AllByRecursion (IsEndOf plan me) places → (k : ℕ) → slice_get places k ≡ Some place → (m : Spoken) → At m.work
-          → is_advertising (end_at m.work.edge place).local ≡ true
-          → is_new_choice before m.work.edge.chosen place.wire (wire_row plan place.wire) ≡ true
-          → WillTell plan service network me.0 place.peer.0 place.pw_id (each_end (mends_choice plan taken_all before) places m).work
-      each_tells [] all k is m speaks told new = absurd (cc (is))
-      each_tells (x ∷ xs) all zero is m speaks told new =
-          let same : x ≡ place = cc (is) in
-          let next : Work = (mends_choice plan taken_all before x m.work).work in
-          let first : WillTell plan service network me.0 place.peer.0 place.pw_id next =
-          subst (λ (p : EndPlace). WillTell plan service network me.0 place.peer.0 place.pw_id (mends_choice plan taken_all before p m.work).work) (sym same) (here_tells m.work speaks told new) in
-          grown before place.pw_id place.peer.0 xs all.1 (and_says m (mends_choice plan taken_all before x))
-          (again m.work next (choice_keeps plan me (Speaks plan service network me peer m.work) (speaks_rows m.work) before x all.0 m.work speaks)) first
-      each_tells (x ∷ xs) all (suc k) is m speaks told new =
-          let next : Work = (mends_choice plan taken_all before x m.work).work in
-          let keeps : KeepsChoice m.work next = mends_choice_keeps plan before x m.work in
-          each_tells xs all.1 k is (and_says m (mends_choice plan taken_all before x))
-          (again m.work next (choice_keeps plan me (Speaks plan service network me peer m.work) (speaks_rows m.work) before x all.0 m.work speaks))
-          (keeps.told place.wire.0 place.peer.0 told)
-          (ap (λ (now : ℕ → Option WireId). is_new_choice before now place.wire (wire_row plan place.wire)) keeps.chosen ∙ new)
+    each_tells : (places : List EndPlace) → AllByRecursion (IsEndOf plan me) places → (k : ℕ) → slice_get places k ≡ Some place → (m : Spoken) → At m.work
+        → is_advertising (end_at m.work.edge place).local ≡ true
+        → is_new_choice before m.work.edge.chosen place.wire (wire_row plan place.wire) ≡ true
+        → WillTell plan service network me.0 place.peer.0 place.wire end.row (each_end (mends_choice plan taken_all before) places m).work
+    each_tells [] all k is m speaks told new = absurd (cc (is))
+    each_tells (x ∷ xs) all zero is m speaks told new =
+        let same : x ≡ place = cc (is) in
+        let next : Work = (mends_choice plan taken_all before x m.work).work in
+        let first : WillTell plan service network me.0 place.peer.0 place.wire end.row next =
+        subst (λ (p : EndPlace). WillTell plan service network me.0 place.peer.0 place.wire end.row (mends_choice plan taken_all before p m.work).work) (sym same)
+        (here_tells m.work speaks told new) in
+        grown before place.peer.0 place.wire end.row xs all.1 (and_says m (mends_choice plan taken_all before x))
+        (again m.work next (choice_keeps plan me (Speaks plan service network me peer m.work) (speaks_rows m.work) before x all.0 m.work speaks)) first
+    each_tells (x ∷ xs) all (suc k) is m speaks told new =
+        let next : Work = (mends_choice plan taken_all before x m.work).work in
+        let keeps : KeepsChoice m.work next = mends_choice_keeps plan before x m.work in
+        each_tells xs all.1 k is (and_says m (mends_choice plan taken_all before x))
+        (again m.work next (choice_keeps plan me (Speaks plan service network me peer m.work) (speaks_rows m.work) before x all.0 m.work speaks))
+        (keeps.told place.wire.0 place.peer.0 told)
+        (ap (λ (now : ℕ → Option WireId). is_new_choice before now place.wire (wire_row plan place.wire)) keeps.chosen ∙ new)
 
-    -- ---- all steps
+  -- ---- all steps
 
-    module _ (work : Work) (begun : Stays plan service network me peer work) where
-      abbrev places : List EndPlace
-      places = end_places plan work.edge.me
+  module _ (work : Work) (begun : Stays plan service network me peer work) where
+    abbrev places : List EndPlace
+    places = end_places plan work.edge.me
 
-      all : AllByRecursion (IsEndOf plan me) places
-      all = subst (λ (k : EdgeId). AllByRecursion (IsEndOf plan me) (end_places plan k)) (sym begun.place) (places_are plan me)
+    all : AllByRecursion (IsEndOf plan me) places
+    all = subst (λ (k : EdgeId). AllByRecursion (IsEndOf plan me) (end_places plan k)) (sym begun.place) (places_are plan me)
 
-      abbrev advertised : Spoken
-      advertised = each_end (mends_end plan taken_all) places (stays work)
+    abbrev advertised : Spoken
+    advertised = each_end (mends_end plan taken_all) places (stays work)
 
-      abbrev chosen_now : Spoken
-      chosen_now = then_changes (choosing plan) advertised
+    abbrev chosen_now : Spoken
+    chosen_now = then_changes (choosing plan) advertised
 
-      abbrev statuses : Spoken
-      statuses = each_end (mends_status plan taken_all) places chosen_now
+    abbrev statuses : Spoken
+    statuses = each_end (mends_status plan taken_all) places chosen_now
 
-      abbrev moved : Spoken
-      moved = each_end (mends_choice plan taken_all work.edge.chosen) places statuses
+    abbrev moved : Spoken
+    moved = each_end (mends_choice plan taken_all work.edge.chosen) places statuses
 
-      abbrev last : Work
-      last = tells_downs plan places (forgets_downs plan places moved.work)
+    abbrev last : Work
+    last = tells_downs plan places (forgets_downs plan places moved.work)
 
-      speaks_advertised : Speaks plan service network me peer work advertised.work
-      speaks_advertised = each_keeps plan me (Speaks plan service network me peer work) (speaks_rows work) (mends_end plan taken_all)
-          (end_keeps plan me (Speaks plan service network me peer work) (speaks_rows work)) places all (stays work)
-          (speaks_first plan service network me peer work begun)
+    speaks_advertised : Speaks plan service network me peer work advertised.work
+    speaks_advertised = each_keeps plan me (Speaks plan service network me peer work) (speaks_rows work) (mends_end plan taken_all)
+        (end_keeps plan me (Speaks plan service network me peer work) (speaks_rows work)) places all (stays work)
+        (speaks_first plan service network me peer work begun)
 
-      speaks_statuses : Speaks plan service network me peer work statuses.work
-      speaks_statuses = each_keeps plan me (Speaks plan service network me peer work) (speaks_rows work) (mends_status plan taken_all)
-          (status_keeps plan me (Speaks plan service network me peer work) (speaks_rows work)) places all chosen_now
-          (chooses_keep plan me (Speaks plan service network me peer work) (speaks_rows work) advertised.work speaks_advertised)
+    speaks_statuses : Speaks plan service network me peer work statuses.work
+    speaks_statuses = each_keeps plan me (Speaks plan service network me peer work) (speaks_rows work) (mends_status plan taken_all)
+        (status_keeps plan me (Speaks plan service network me peer work) (speaks_rows work)) places all chosen_now
+        (chooses_keep plan me (Speaks plan service network me peer work) (speaks_rows work) advertised.work speaks_advertised)
 
-      speaks_moved : At moved.work
-      speaks_moved = again work moved.work (each_keeps plan me (Speaks plan service network me peer work) (speaks_rows work) (mends_choice plan taken_all work.edge.chosen)
-          (choice_keeps plan me (Speaks plan service network me peer work) (speaks_rows work) work.edge.chosen) places all statuses speaks_statuses)
+    speaks_moved : At moved.work
+    speaks_moved = again work moved.work (each_keeps plan me (Speaks plan service network me peer work) (speaks_rows work) (mends_choice plan taken_all work.edge.chosen)
+        (choice_keeps plan me (Speaks plan service network me peer work) (speaks_rows work) work.edge.chosen) places all statuses speaks_statuses)
 
-      speaks_last : Speaks plan service network me peer moved.work last
-      speaks_last = downs_keep plan me (Speaks plan service network me peer moved.work) (speaks_rows moved.work) places all (forgets_downs plan places moved.work)
-          (forgets_keep plan me (Speaks plan service network me peer moved.work) (speaks_rows moved.work) places moved.work speaks_moved)
+    speaks_last : Speaks plan service network me peer moved.work last
+    speaks_last = downs_keep plan me (Speaks plan service network me peer moved.work) (speaks_rows moved.work) places all (forgets_downs plan places moved.work)
+        (forgets_keep plan me (Speaks plan service network me peer moved.work) (speaks_rows moved.work) places moved.work speaks_moved)
 
-      told_statuses : KeepsChoice chosen_now.work statuses.work
-      told_statuses = each_choice (mends_status plan taken_all) (status_choice plan) places chosen_now
+    told_statuses : KeepsChoice chosen_now.work statuses.work
+    told_statuses = each_choice (mends_status plan taken_all) (status_choice plan) places chosen_now
 
-      chosen_last : last.edge.chosen ≡ chosen_now.work.edge.chosen
-      chosen_last =
-          (choice_then moved.work (forgets_downs plan places moved.work) last (forgets_choice plan places moved.work) (downs_choice plan places (forgets_downs plan places moved.work))).chosen
-          ∙ ((each_choice (mends_choice plan taken_all work.edge.chosen) (mends_choice_keeps plan work.edge.chosen) places statuses).chosen ∙ told_statuses.chosen)
+    chosen_last : last.edge.chosen ≡ chosen_now.work.edge.chosen
+    chosen_last =
+        (choice_then moved.work (forgets_downs plan places moved.work) last (forgets_choice plan places moved.work) (downs_choice plan places (forgets_downs plan places moved.work))).chosen
+        ∙ ((each_choice (mends_choice plan taken_all work.edge.chosen) (mends_choice_keeps plan work.edge.chosen) places statuses).chosen ∙ told_statuses.chosen)
 
-      chosen_is : last.edge.chosen service.0 ≡ choice plan advertised.work.edge service
-      chosen_is = ap (λ (f : ℕ → Option WireId). f service.0) chosen_last ∙ choosing_chosen plan advertised.work service
+    chosen_is : last.edge.chosen service.0 ≡ choice plan advertised.work.edge service
+    chosen_is = ap (λ (f : ℕ → Option WireId). f service.0) chosen_last ∙ choosing_chosen plan advertised.work service
 
-      is_wire_some : (wire : WireId) (o : Option WireId) → Rattle.edge_model.specs.Role.is_chosen_wire wire o ≡ true → o ≡ Some wire
-      is_wire_some wire None is = clash is
-      is_wire_some wire (Some other) is = ap (λ (n : ℕ). Some (record { 0 = n })) (eqb-true other.0 wire.0 is)
+    is_wire_some : (wire : WireId) (o : Option WireId) → Rattle.edge_model.specs.Role.is_chosen_wire wire o ≡ true → o ≡ Some wire
+    is_wire_some wire None is = clash is
+    is_wire_some wire (Some other) is = ap (λ (n : ℕ). Some (record { 0 = n })) (eqb-true other.0 wire.0 is)
 
-      tell : (wire : WireId) (home : ℕ) (spoke : IsSpokeTo plan service me.0 wire home) → last.edge.chosen service.0 ≡ Some wire
-          → (work.edge.chosen service.0 ≡ Some wire) ⊎ WillTell plan service network me.0 home spoke.row.pw_id last
-      tell wire home spoke chosen = elim (cases_Bool (is_chosen work.edge.chosen wire spoke.row)) [
-        | inl was ↦ inl (is_wire_some wire (work.edge.chosen service.0) (subst (λ (s : ServiceId). Rattle.edge_model.specs.Role.is_chosen_wire wire (work.edge.chosen s.0) ≡ true) link.of.of_service was))
-        | inr new ↦ inr (tells new)
-      ]
-        where
-          link : IsSpokeLink plan service me.0 home spoke.row
-          link = spoke_link plan service me.0 wire home checked short spoke
+    holds_advertised : Holds me work.edge advertised.work.edge
+    holds_advertised = each_keeps plan me (λ (w : Work). Holds me work.edge w.edge) (rows_hold plan me work.edge) (mends_end plan taken_all)
+        (end_keeps plan me (λ (w : Work). Holds me work.edge w.edge) (rows_hold plan me work.edge)) places all (stays work)
+        (record { place = begun.place; held = λ wire k. refl; bits = refl; stuck = λ wire k is. is })
 
-          choose : IsChoice plan service advertised.work.edge wire
-          choose = choice_is plan service advertised.work.edge wire (sym chosen_is ∙ chosen)
+    tell : (wire : WireId) (home : ℕ) (spoke : IsSpokeTo plan service me.0 wire home) → last.edge.chosen service.0 ≡ Some wire
+        → (work.edge.chosen service.0 ≡ Some wire) ⊎ TellsNext plan service network me.0 wire spoke.row last
+    tell wire home spoke chosen = elim (cases_Bool (is_chosen work.edge.chosen wire spoke.row)) [
+      | inl was ↦ inl (is_wire_some wire (work.edge.chosen service.0) (subst (λ (s : ServiceId). Rattle.edge_model.specs.Role.is_chosen_wire wire (work.edge.chosen s.0) ≡ true) of_service was))
+      | inr new ↦ inr (tells new)
+    ]
+      where
+        ours : is_wire_of service spoke.row ≡ true
+        ours = spoke_ours service me.0 spoke.row spoke.from
 
-          place : EndPlace
-          place = choose.place
+        of_service : spoke.row.service ≡ service
+        of_service = service_is spoke.row service ours
 
-          at : slice_get places choose.k ≡ Some place
-          at = ap (λ (k : EdgeId). slice_get (end_places plan k) choose.k) (begun.place ∙ sym speaks_advertised.place) ∙ choose.at
+        choose : IsChoice plan service advertised.work.edge wire
+        choose = choice_is plan service advertised.work.edge wire (sym chosen_is ∙ chosen)
 
-          end : IsEndOf plan me place
-          end = all_get (IsEndOf plan me) places choose.k place all at
+        place : EndPlace
+        place = choose.place
 
-          row_is : end.row ≡ spoke.row
-          row_is = same_row end.row spoke.row (sym end.is ∙ (ap (wire_row plan) choose.wire_is ∙ spoke.is))
+        at : slice_get places choose.k ≡ Some place
+        at = ap (λ (k : EdgeId). slice_get (end_places plan k) choose.k) (begun.place ∙ sym speaks_advertised.place) ∙ choose.at
 
-          home_is : place.peer.0 ≡ home
-          home_is = ap (λ (k : EdgeId). k.0)
-              (two_peers me.0 home place.peer (subst (λ (p : List EdgeId). joins me.0 place.peer.0 p ≡ true) link.path
-              (ap (λ (r : WirePlan). joins me.0 place.peer.0 r.path) (sym row_is) ∙ end.joined)))
-            where
-              here : (a h p : ℕ) → ((a == a && p == h) || (p == a && a == h)) || false ≡ true → p ≡ h
-              here a h p is = grind (arith, nat_tests)
+        end : IsEndOf plan me place
+        end = all_get (IsEndOf plan me) places choose.k place all at
 
-              two_peers : (a h : ℕ) (p : EdgeId) → ((a == a && p.0 == h) || (p.0 == a && a == h)) || false ≡ true → p ≡ record { 0 = h }
-              two_peers a h p is = ap (λ (n : ℕ). record { 0 = n }) (here a h p.0 is)
+        row_is : end.row ≡ spoke.row
+        row_is = same_row end.row spoke.row (sym end.is ∙ (ap (wire_row plan) choose.wire_is ∙ spoke.is))
 
-          joined : are_joined_by plan service me.0 place.peer.0 ≡ true
-          joined = subst (λ (n : ℕ). are_joined_by plan service me.0 n ≡ true) (sym home_is) link.by_service
+        first : is_first me.0 spoke.row.path ≡ true
+        first = second_holds (is_wire_of service spoke.row && not (is_mesh_class spoke.row.class)) (is_first me.0 spoke.row.path) spoke.from
 
-          told : is_advertising (end_at statuses.work.edge place).local ≡ true
-          told =
-              let agree = forwards_where_both_agree role.Chosen (advertised.work.edge.bits place.wire.0) (end_at advertised.work.edge place) choose.usable in
-              told_statuses.told place.wire.0 place.peer.0 (choosing_told plan advertised.work place.wire.0 place.peer.0 (advertises_it agree.label agree.own _ agree.advertises))
+        beside : joins me.0 place.peer.0 spoke.row.path ≡ true
+        beside = ap (λ (r : WirePlan). joins me.0 place.peer.0 r.path) (sym row_is) ∙ end.joined
 
-          now : statuses.work.edge.chosen spoke.row.service.0 ≡ Some wire
-          now = ap (λ (s : ServiceId). statuses.work.edge.chosen s.0) link.of.of_service ∙ (ap (λ (f : ℕ → Option WireId). f service.0) (told_statuses.chosen ∙ sym chosen_last) ∙ chosen)
+        next : follows spoke.row.path me.0 place.peer.0 ≡ true
+        next = only (follows spoke.row.path me.0 place.peer.0) (begins_first spoke.row.path me.0 place.peer.0 (wire_fits plan wire spoke.row checked spoke.is).once first)
+            (sym (joins_is spoke.row.path me.0 place.peer.0) ∙ beside)
+          where
+            only : (p : Bool) {q : Bool} → q ≡ false → p || q ≡ true → p ≡ true
+            only true h k = refl
+            only false h k = clash (sym h ∙ k)
 
-          tells : is_chosen work.edge.chosen wire spoke.row ≡ false → WillTell plan service network me.0 home spoke.row.pw_id last
-          tells new =
-              let fresh : is_new_choice work.edge.chosen statuses.work.edge.chosen place.wire (wire_row plan place.wire) ≡ true =
-              ap (λ (w : WireId). is_new_choice work.edge.chosen statuses.work.edge.chosen w (wire_row plan w)) choose.wire_is
-              ∙ (ap (is_new_choice work.edge.chosen statuses.work.edge.chosen wire) spoke.is
-              ∙ now_and_not_was (is_chosen statuses.work.edge.chosen wire spoke.row) (is_chosen work.edge.chosen wire spoke.row) (rw now (same_number wire.0)) new) in
-              let first : WillTell plan service network me.0 place.peer.0 place.pw_id moved.work =
-              each_tells work.edge.chosen place end joined places all choose.k at statuses (again work statuses.work speaks_statuses) told fresh in
-              let more : WillTell plan service network me.0 place.peer.0 place.pw_id last =
-              tells_on plan service network me.0 place.peer.0 place.pw_id moved.work last (speaks_last.more place.peer.0 first.joined first.there) first in
-              subst (λ (n : ℕ). WillTell plan service network me.0 n spoke.row.pw_id last) home_is
-              (subst (λ (n : ℕ). WillTell plan service network me.0 place.peer.0 n last) (end.pw_id ∙ ap (λ (r : WirePlan). r.pw_id) row_is) more)
+        whole : (network.edges me.0).bits wire.0 ≡ 0
+        whole = ap (λ (f : ℕ → ℕ). f wire.0) (sym (holds_advertised.bits ∙ begun.lasts.bits))
+            ∙ (ap (λ (w : WireId). advertised.work.edge.bits w.0) (sym choose.wire_is)
+            ∙ forwards_whole role.Chosen (advertised.work.edge.bits place.wire.0) (end_at advertised.work.edge place) choose.usable)
 
-      pub mends_tell_here : TellsChoice plan service network me work (mends plan taken_all work)
-      mends_tell_here = subst (TellsChoice plan service network me work) (sym (mends_takes plan taken_all (λ k. refl) work)) (record { told = tell })
+        onward : IsOnward plan service network me.0 place.peer.0 wire spoke.row
+        onward = record { is = spoke.is; edge = me.0; from = spoke.from; whole = whole; next = next }
 
-pub mends_tell : (plan : Plan) (service : ServiceId) (network : NetworkState) (me : EdgeId) (peer : ℕ) (work : Work) → IsChecked plan → HasTypes plan → has_short_spokes plan service
-    ≡ true → HasWays plan service network me
+        seen : IsSeen plan service network me.0 place.peer.0 place.wire end.row
+        seen = subst (λ (w : WireId). IsSeen plan service network me.0 place.peer.0 w end.row) (sym choose.wire_is)
+            (subst (λ (r : WirePlan). IsSeen plan service network me.0 place.peer.0 wire r) (sym row_is) (OfSpoke onward))
+
+        joined : are_joined_by plan service me.0 place.peer.0 ≡ true
+        joined = of_service_joined plan service me.0 place.peer.0 wire spoke.row spoke.is ours next
+
+        told : is_advertising (end_at statuses.work.edge place).local ≡ true
+        told =
+            let agree = forwards_where_both_agree role.Chosen (advertised.work.edge.bits place.wire.0) (end_at advertised.work.edge place) choose.usable in
+            told_statuses.told place.wire.0 place.peer.0 (choosing_told plan advertised.work place.wire.0 place.peer.0 (advertises_it agree.label agree.own _ agree.advertises))
+
+        now : statuses.work.edge.chosen spoke.row.service.0 ≡ Some wire
+        now = ap (λ (s : ServiceId). statuses.work.edge.chosen s.0) of_service ∙ (ap (λ (f : ℕ → Option WireId). f service.0) (told_statuses.chosen ∙ sym chosen_last) ∙ chosen)
+
+        tells : is_chosen work.edge.chosen wire spoke.row ≡ false → TellsNext plan service network me.0 wire spoke.row last
+        tells new =
+            let fresh : is_new_choice work.edge.chosen statuses.work.edge.chosen place.wire (wire_row plan place.wire) ≡ true =
+            ap (λ (w : WireId). is_new_choice work.edge.chosen statuses.work.edge.chosen w (wire_row plan w)) choose.wire_is
+            ∙ (ap (is_new_choice work.edge.chosen statuses.work.edge.chosen wire) spoke.is
+            ∙ now_and_not_was (is_chosen statuses.work.edge.chosen wire spoke.row) (is_chosen work.edge.chosen wire spoke.row) (rw now (same_number wire.0)) new) in
+            let first_told : WillTell plan service network me.0 place.peer.0 place.wire end.row moved.work =
+            each_tells work.edge.chosen place end joined seen places all choose.k at statuses (again work statuses.work speaks_statuses) told fresh in
+            let more : WillTell plan service network me.0 place.peer.0 place.wire end.row last =
+            tells_on plan service network me.0 place.peer.0 place.wire end.row moved.work last (speaks_last.more place.peer.0 first_told.joined first_told.there) first_told in
+            record {
+              next = place.peer;
+              follows_it = next;
+              whole = whole;
+              tells = subst (λ (w : WireId). WillTell plan service network me.0 place.peer.0 w spoke.row last) choose.wire_is
+                  (subst (λ (r : WirePlan). WillTell plan service network me.0 place.peer.0 place.wire r last) row_is more);
+            }
+
+    pub mends_tell_here : TellsChoice plan service network me work (mends plan taken_all work)
+    mends_tell_here = subst (TellsChoice plan service network me work) (sym (mends_takes plan taken_all (λ k. refl) work)) (record { told = tell })
+
+pub mends_tell : (plan : Plan) (service : ServiceId) (network : NetworkState) (me : EdgeId) (peer : ℕ) (work : Work) → IsChecked plan → HasTypes plan → HasWays plan service network me
     → Stays plan service network me peer work → TellsChoice plan service network me work (mends plan taken_all work)
-mends_tell plan service network me peer work checked types short ways begun = mends_tell_here plan service network me peer checked types ways short work begun
+mends_tell plan service network me peer work checked types ways begun = mends_tell_here plan service network me peer checked types ways work begun

@@ -1,4 +1,5 @@
 -- An edge hears a withdrawal of addresses: it forgets, and passes the withdrawal on.
+use Rattle.move_laws.proofs.LastLemmas.{holds_last, withdraw_holds}
 use Rattle.pw_messages.specs.Content.{mac_withdrawal}
 use Rattle.edge_model.proofs.SessionLemmas.{any, says_works}
 use Rattle.edge_model.proofs.WalkLemmas.{hears_mac_withdraw_holds}
@@ -20,7 +21,6 @@ use Rattle.flight_laws.proofs.PieceLemmas.{AreSixOctetsEach, none_are_piece}
 use Rattle.flight_laws.proofs.PlaceLemmas.{IsEndOf, same_row}
 use Rattle.flight_laws.proofs.RuledMendLemmas.{wire_fits}
 use Rattle.flight_laws.specs.Ends.{HasTypes}
-use Rattle.move_laws.specs.Moves.{has_short_spokes}
 use Rattle.hvpls_spokes.specs.Port.{is_wire_port, ports_of, wire_port}
 use Rattle.hvpls_spokes.specs.Role as roles
 use Rattle.hvpls_spokes.specs.declared.edge_role.Role.TheVariants as role
@@ -37,20 +37,19 @@ use Rattle.move_laws.proofs.ForgetLemmas.{Forgets, hear_steps_forget}
 use Rattle.move_laws.proofs.PendingLemmas.{all_weaker, tells_on}
 use Rattle.move_laws.proofs.SpeakLemmas.{Speaks, speaks_first}
 use Rattle.move_laws.proofs.StayLemmas.{rows_speak, speaks_on}
-use Rattle.move_laws.proofs.WireLemmas.{HasPortAt, IsLinkEnd, IsMeshLink, IsSpokeLink, link_end, mesh_link, port_found, service_is, spoke_link}
-use Rattle.move_laws.specs.Healing.{HasWays, IsSpokeTo, Stays, StaysOn, WillTell, is_advertising}
-use Rattle.net_base.proofs.PathLemmas.{joins_turned}
+use Rattle.move_laws.proofs.WireLemmas.{HasPortAt, IsLinkEnd, link_end, port_found, service_is, IsSpokeOf, spoke_of}
+use Rattle.move_laws.specs.Healing.{HasWays, IsSpokeTo, Stays, StaysOn, WillTell, is_advertising, IsSeen, advertises_to}
 use Rattle.net_base.specs.declared.plan.Plan.{Plan}
 use Rattle.net_base.specs.declared.plan.places.EdgeId.{EdgeId}
 use Rattle.net_base.specs.declared.plan.places.ServiceId.{ServiceId}
 use Rattle.net_base.specs.declared.plan.places.WireId.{WireId}
 use Rattle.net_base.specs.declared.plan.wire_plan.WirePlan.{WirePlan}
 use Rattle.net_values.specs.declared.mac.Mac.{Mac}
-use Rattle.net_values.proofs.BoolLemmas.{clash}
+use Rattle.net_values.proofs.BoolLemmas.{clash, second_holds}
 use Rattle.net_values.proofs.NumberLemmas.{same_number, next_place, from_none, at_start}
 use Rattle.net_base.specs.plan.Accepted.{IsChecked}
 use Rattle.net_base.specs.plan.Paths.{joins, mate_on}
-use Rattle.net_base.specs.plan.Places.{wire_row}
+use Rattle.net_base.specs.plan.Places.{wire_row, is_mesh_class}
 use Rattle.net_base.specs.plan.Roles.{are_joined_by, has_port, is_mesh_of, is_spoke_edge, is_wire_of, wire_ends_at}
 use Rattle.network_model.proofs.GoalLemmas.{mate_inside}
 use Rattle.network_model.specs.Absorb.{taken_all}
@@ -148,6 +147,7 @@ withdraw_stays plan service network me k peer fec macs work checked types are be
     speaks_on plan service network me k work (hears_mac_withdraw plan taken_all peer (Some fec) (Some macs) work) begun
     (withdraw_keeps plan me (Speaks plan service network me k work) (rows_speak plan service me checked types network k work) peer fec macs are work
     (speaks_first plan service network me k work begun))
+    (holds_last plan service me.0 k work.edge _ me (withdraw_holds plan me peer fec macs work are begun.place))
     (hears_mac_withdraw_holds plan taken_all (Forgets service) (hear_steps_forget service plan) peer (Some fec) (Some macs) work)
 
 -- ---- all addresses are withdrawn
@@ -156,7 +156,8 @@ withdraw_stays plan service network me k peer fec macs work checked types are be
 abbrev pub AreAtPort : Plan → ServiceId → EdgeId → Port → List MacEntry → Type 0
 AreAtPort plan service me at entries = AllByRecursion (λ (entry : MacEntry). slice_get (ports_of plan service me) entry.port ≡ Some at) entries
 
-module _ (plan : Plan) (service : ServiceId) (me peer : EdgeId) (wire : WireId) (row : WirePlan) (fec : PwFec) (work : Work) (checked : IsChecked plan) (ends : wire_ends_at service me.0 row ≡ true) (placed : work.edge.me ≡ me)
+module _ (plan : Plan) (service : ServiceId) (me peer : EdgeId) (wire : WireId) (row : WirePlan) (fec : PwFec) (work : Work) (checked : IsChecked plan) (ends : wire_ends_at service me.0 row ≡ true)
+    (placed : work.edge.me ≡ me)
     (is : wire_row plan wire ≡ Some row) (of_service : is_wire_of service row ≡ true) (joined : joins me.0 peer.0 row.path ≡ true) (named : fec.pw_id ≡ Some row.pw_id) where
   end : IsLinkEnd plan me peer wire row
   end = link_end plan service me peer wire row checked ends is joined
@@ -206,7 +207,7 @@ module _ (plan : Plan) (service : ServiceId) (me peer : EdgeId) (wire : WireId) 
 
 -- ---- a withdrawal is passed on
 
-module _ (plan : Plan) (service : ServiceId) (network : NetworkState) (me : EdgeId) (k : ℕ) (checked : IsChecked plan) (types : HasTypes plan) (short : has_short_spokes plan service ≡ true) (ways : HasWays plan service network me) where
+module _ (plan : Plan) (service : ServiceId) (network : NetworkState) (me : EdgeId) (k : ℕ) (checked : IsChecked plan) (types : HasTypes plan) (ways : HasWays plan service network me) where
   abbrev At : Work → Type 0
   At work = Speaks plan service network me k work work
 
@@ -239,66 +240,67 @@ module _ (plan : Plan) (service : ServiceId) (network : NetworkState) (me : Edge
   ports_speak base targets p [] work speaks = speaks
   ports_speak base targets p (x ∷ xs) work speaks = ports_speak base targets (p + 1) xs (cond (targets p) (tells_at plan taken_all [] x work) work) (port_or_not base (targets p) x work speaks)
 
-  module _ (next : EdgeId) (mesh : WireId) (row : WirePlan) (is : wire_row plan mesh ≡ Some row) (of_mesh : is_mesh_of service row ≡ true) (joined : joins me.0 next.0 row.path ≡ true) where
-    link : IsMeshLink plan service me.0 next.0 row
-    link = mesh_link plan service me.0 next.0 mesh row is of_mesh joined
-
-    -- to the next edge of a mesh wire
+  module _ (next : EdgeId) (wire : WireId) (row : WirePlan) (is : wire_row plan wire ≡ Some row) (seen : IsSeen plan service network me.0 next.0 wire row)
+      (by_service : are_joined_by plan service me.0 next.0 ≡ true) where
+    -- to the next edge of the wire
     abbrev Tells : Work → Type 0
-    Tells work = WillTell plan service network me.0 next.0 row.pw_id work
+    Tells work = WillTell plan service network me.0 next.0 wire row work
 
     -- at the end beside it
-    end_tells : (place : EndPlace) → IsEndOf plan me place → place.wire ≡ mesh → place.peer ≡ next → place.pw_id ≡ row.pw_id → (work : Work) → At work → Tells (tells_by taken_all [] (Some place) work)
-    end_tells place end wire_is peer_is pw_id_is work speaks = by_local (end_at work.edge place).local refl told where
-      told : is_advertising (end_at work.edge place).local ≡ true
-      told = ap (λ (w : WireId). is_advertising (work.edge.ends w.0 place.peer.0).local) wire_is
-          ∙ (ap (λ (e : EdgeId). is_advertising (work.edge.ends mesh.0 e.0).local) peer_is ∙ speaks.mesh.told mesh row next.0 is of_mesh joined)
+    end_tells : (place : EndPlace) → IsEndOf plan me place → place.wire ≡ wire → place.peer ≡ next → (work : Work) → advertises_to work.edge next.0 wire.0 ≡ true → At work
+        → Tells (tells_by taken_all [] (Some place) work)
+    end_tells place end wire_is peer_is work told speaks = by_local (end_at work.edge place).local refl told_there where
+      told_there : is_advertising (end_at work.edge place).local ≡ true
+      told_there = ap (λ (w : WireId). is_advertising (work.edge.ends w.0 place.peer.0).local) wire_is ∙ (ap (λ (e : EdgeId). is_advertising (work.edge.ends wire.0 e.0).local) peer_is ∙ told)
 
-      by_service : are_joined_by plan service me.0 place.peer.0 ≡ true
-      by_service = ap (λ (e : EdgeId). are_joined_by plan service me.0 e.0) peer_is ∙ link.by_service
+      row_is : end.row ≡ row
+      row_is = same_row end.row row (sym end.is ∙ (ap (wire_row plan) wire_is ∙ is))
+
+      seen_there : IsSeen plan service network me.0 place.peer.0 place.wire end.row
+      seen_there = subst (λ (e : EdgeId). IsSeen plan service network me.0 e.0 place.wire end.row) (sym peer_is)
+          (subst (λ (w : WireId). IsSeen plan service network me.0 next.0 w end.row) (sym wire_is) (subst (λ (r : WirePlan). IsSeen plan service network me.0 next.0 wire r) (sym row_is) seen))
 
       by_local : (local : LocalPart) → (end_at work.edge place).local ≡ local → is_advertising local ≡ true
           → Tells (tells_piece_by taken_all place [] local work).work
       by_local (Idle declined) at told = clash told
       by_local (Advertised label content) at told =
-          subst (λ (e : EdgeId). WillTell plan service network me.0 e.0 row.pw_id (says taken_all place.peer (mac_withdrawal place.pw_id [] content) work).work) peer_is
-          (subst (λ (n : ℕ). WillTell plan service network me.0 place.peer.0 n (says taken_all place.peer (mac_withdrawal place.pw_id [] content) work).work) pw_id_is
-          (piece_tells plan service network me k checked types ways work place label content work end by_service at speaks))
+          subst (λ (e : EdgeId). WillTell plan service network me.0 e.0 wire row (says taken_all place.peer (mac_withdrawal place.pw_id [] content) work).work) peer_is
+          (subst (λ (w : WireId). WillTell plan service network me.0 place.peer.0 w row (says taken_all place.peer (mac_withdrawal place.pw_id [] content) work).work) wire_is
+          (subst (λ (r : WirePlan). WillTell plan service network me.0 place.peer.0 place.wire r (says taken_all place.peer (mac_withdrawal place.pw_id [] content) work).work) row_is
+          (piece_tells plan service network me k checked types ways work place label content work end seen_there
+          (ap (λ (e : EdgeId). are_joined_by plan service me.0 e.0) peer_is ∙ by_service) at speaks)))
       by_local (Withdrawing label) at told = clash told
 
     -- at a switching point, from the other side
     pub withdraw_goes_on : (peer : EdgeId) (fec : PwFec) (work : Work) → Stays plan service network me k work → joins me.0 peer.0 row.path ≡ true → mate_on row.path me.0 peer.0 ≡ Some next
-        → fec.pw_id ≡ Some row.pw_id → Tells (hears_mac_withdraw plan taken_all peer (Some fec) (Some []) work)
-    withdraw_goes_on peer fec work begun beside mated named =
-        subst Tells (sym (heard_beyond plan me peer next mesh row fec work checked begun.place is beside mated inside named))
-        (end_tells far.place far.end far.wire_is far.peer_is pw_id_is work (speaks_first plan service network me k work begun))
+        → fec.pw_id ≡ Some row.pw_id → advertises_to work.edge next.0 wire.0 ≡ true → Tells (hears_mac_withdraw plan taken_all peer (Some fec) (Some []) work)
+    withdraw_goes_on peer fec work begun beside mated named told =
+        subst Tells (sym (heard_beyond plan me peer next wire row fec work checked begun.place is beside mated inside named))
+        (end_tells far.place far.end far.wire_is far.peer_is work told (speaks_first plan service network me k work begun))
       where
         inside : is_terminal row me ≡ false
-        inside = mate_inside row.path me peer next (wire_fits plan mesh row checked is).once mated
+        inside = mate_inside row.path me peer next (wire_fits plan wire row checked is).once mated
 
-        far : HasEndBeside plan me next mesh
-        far = beyond plan me peer next mesh row fec work checked begun.place is beside mated inside named
+        far : HasEndBeside plan me next wire
+        far = beyond plan me peer next wire row fec work checked begun.place is beside mated inside named
 
-        pw_id_is : far.place.pw_id ≡ row.pw_id
-        pw_id_is = far.end.pw_id ∙ ap (λ (r : WirePlan). r.pw_id) (same_row far.end.row row (sym far.end.is ∙ (ap (wire_row plan) far.wire_is ∙ is)))
-
-    -- at a terminal edge, by the port of the wire
-    module _ (ends : wire_ends_at service me.0 row ≡ true) where
-      here_tells : (work : Work) → At work → Tells (tells_at plan taken_all [] (port.Mesh mesh) work)
+    -- at a terminal edge of a mesh wire, by its port
+    module _ (of_mesh : is_mesh_of service row ≡ true) (joined : joins me.0 next.0 row.path ≡ true) (ends : wire_ends_at service me.0 row ≡ true) where
+      here_tells : (work : Work) → At work → Tells (tells_at plan taken_all [] (port.Mesh wire) work)
       here_tells work speaks = subst (λ (o : Option EndPlace). Tells (tells_by taken_all [] o work)) (sym found)
-          (end_tells there.place (wire_end_is plan me mesh there.place there.found) there.wire_is there.peer_is there.pw_id_is work speaks)
+          (end_tells there.place (wire_end_is plan me wire there.place there.found) there.wire_is there.peer_is work (speaks.mesh.told wire row next.0 is of_mesh joined) speaks)
         where
-          there : IsLinkEnd plan me next mesh row
-          there = link_end plan service me next mesh row checked ends is joined
+          there : IsLinkEnd plan me next wire row
+          there = link_end plan service me next wire row checked ends is joined
 
-          found : wire_end plan work.edge.me mesh ≡ Some there.place
-          found = ap (λ (e : EdgeId). wire_end plan e mesh) speaks.place ∙ there.found
+          found : wire_end plan work.edge.me wire ≡ Some there.place
+          found = ap (λ (e : EdgeId). wire_end plan e wire) speaks.place ∙ there.found
 
-      ports_tell : (targets : ℕ → Bool) (p i : ℕ) (ports : List Port) (work : Work) → slice_get ports i ≡ Some (port.Mesh mesh) → targets (p + i) ≡ true → At work
+      ports_tell : (targets : ℕ → Bool) (p i : ℕ) (ports : List Port) (work : Work) → slice_get ports i ≡ Some (port.Mesh wire) → targets (p + i) ≡ true → At work
           → Tells (copies targets (tells_at plan taken_all []) p ports work)
       ports_tell targets p i [] work at goes speaks = absurd (cc (at))
       ports_tell targets p zero (x ∷ xs) work at goes speaks =
-          let same : x ≡ port.Mesh mesh = cc (at) in
+          let same : x ≡ port.Mesh wire = cc (at) in
           let target : targets p ≡ true = ap targets (sym (at_start p)) ∙ goes in
           let after : Work = tells_at plan taken_all [] x work in
           let first : Tells after =
@@ -306,29 +308,27 @@ module _ (plan : Plan) (service : ServiceId) (network : NetworkState) (me : Edge
           let then : Speaks plan service network me k after (copies targets (tells_at plan taken_all []) (p + 1) xs after) =
           ports_speak after targets (p + 1) xs after (renew work after (port_speaks work x work speaks)) in
           subst (λ (b : Bool). Tells (copies targets (tells_at plan taken_all []) (p + 1) xs (cond b after work))) (sym target)
-          (tells_on plan service network me.0 next.0 row.pw_id after (copies targets (tells_at plan taken_all []) (p + 1) xs after) (then.more next.0 first.joined first.there) first)
+          (tells_on plan service network me.0 next.0 wire row after (copies targets (tells_at plan taken_all []) (p + 1) xs after) (then.more next.0 first.joined first.there) first)
       ports_tell targets p (suc i) (x ∷ xs) work at goes speaks =
-          ports_tell targets (p + 1) i xs (cond (targets p) (tells_at plan taken_all [] x work) work) at (ap targets (next_place p i) ∙ goes) (renew work _ (port_or_not work (targets p) x work speaks))
+          ports_tell targets (p + 1) i xs (cond (targets p) (tells_at plan taken_all [] x work) work) at (ap targets (next_place p i) ∙ goes)
+          (renew work _ (port_or_not work (targets p) x work speaks))
 
       -- from a spoke
-      pub withdraw_passes : (peer : EdgeId) (wire : WireId) (fec : PwFec) (work : Work) → (begun : Stays plan service network me k work)
-          → (spoke : IsSpokeTo plan service peer.0 wire me.0) → fec.pw_id ≡ Some spoke.row.pw_id
+      pub withdraw_passes : (peer : EdgeId) (edge : ℕ) (spoke_wire : WireId) (fec : PwFec) (work : Work) → (begun : Stays plan service network me k work)
+          → (spoke : IsSpokeTo plan service edge spoke_wire me.0) → joins me.0 peer.0 spoke.row.path ≡ true → fec.pw_id ≡ Some spoke.row.pw_id
           → Tells (hears_mac_withdraw plan taken_all peer (Some fec) (Some []) work)
-      withdraw_passes peer wire fec work begun spoke named =
-          subst (Tells) (sym (heard_is plan service me peer wire spoke.row fec work checked near.of.ends_there begun.place spoke.is near.of.ours back named))
+      withdraw_passes peer edge spoke_wire fec work begun spoke back named =
+          subst Tells (sym (heard_is plan service me peer spoke_wire spoke.row fec work checked near.ends_there begun.place spoke.is near.ours back named))
           (subst (λ (o : Option Role). Tells (passes_on plan taken_all [] service from.p o cleared)) (sym role_is) passed)
         where
-          near : IsSpokeLink plan service peer.0 me.0 spoke.row
-          near = spoke_link plan service peer.0 wire me.0 checked short spoke
+          near : IsSpokeOf plan service edge me.0 spoke.row
+          near = spoke_of plan service edge spoke_wire me.0 checked spoke
 
-          back : joins me.0 peer.0 spoke.row.path ≡ true
-          back = sym (joins_turned spoke.row.path peer.0 me.0) ∙ near.joined
+          from : HasPortAt plan service me spoke_wire spoke.row
+          from = found_port plan service me peer spoke_wire spoke.row fec work checked near.ends_there begun.place spoke.is near.ours back named
 
-          from : HasPortAt plan service me wire spoke.row
-          from = found_port plan service me peer wire spoke.row fec work checked near.of.ends_there begun.place spoke.is near.of.ours back named
-
-          to : HasPortAt plan service me mesh row
-          to = port_found plan service me mesh row is ends
+          to : HasPortAt plan service me wire row
+          to = port_found plan service me wire row is ends
 
           cleared : Work
           cleared = changes (withdrawing_at service [] from.p) work
@@ -337,7 +337,7 @@ module _ (plan : Plan) (service : ServiceId) (network : NetworkState) (me : Edge
           role_is = ap (λ (e : EdgeId). roles.role_of plan service e) begun.place ∙ rw (core_only.0, core_only.1) refl
             where
               core_only : (is_spoke_edge plan service me.0 ≡ false) × (has_port plan service me.0 ≡ true)
-              core_only = no_spoke (has_port plan service me.0) (is_spoke_edge plan service me.0) near.of.core
+              core_only = no_spoke (has_port plan service me.0) (is_spoke_edge plan service me.0) near.core
                 where
                   no_spoke : (p s : Bool) → p && not s ≡ true → (s ≡ false) × (p ≡ true)
                   no_spoke true true is = clash is
@@ -354,13 +354,14 @@ module _ (plan : Plan) (service : ServiceId) (network : NetworkState) (me : Edge
           ports : List Port
           ports = ports_of plan service me
 
-          mesh_leads : slice_get ports to.p ≡ Some (port.Mesh mesh)
-          mesh_leads = to.leads ∙ ap (λ (m : Bool). Some (cond m (port.Mesh (record { 0 = mesh.0 })) (port.Spoke (record { 0 = mesh.0 })))) link.class
+          mesh_leads : slice_get ports to.p ≡ Some (port.Mesh wire)
+          mesh_leads = to.leads ∙ ap (λ (m : Bool). Some (cond m (port.Mesh (record { 0 = wire.0 })) (port.Spoke (record { 0 = wire.0 }))))
+              (second_holds (is_wire_of service row) (is_mesh_class row.class) of_mesh)
 
-          spoke_leads : slice_get ports from.p ≡ Some (port.Spoke wire)
-          spoke_leads = from.leads ∙ ap (λ (m : Bool). Some (cond m (port.Mesh (record { 0 = wire.0 })) (port.Spoke (record { 0 = wire.0 })))) near.of.class
+          spoke_leads : slice_get ports from.p ≡ Some (port.Spoke spoke_wire)
+          spoke_leads = from.leads ∙ ap (λ (m : Bool). Some (cond m (port.Mesh (record { 0 = spoke_wire.0 })) (port.Spoke (record { 0 = spoke_wire.0 })))) near.class
 
-          not_same : (a b : ℕ) → slice_get ports a ≡ Some (port.Mesh mesh) → slice_get ports b ≡ Some (port.Spoke wire) → (b' : Bool) → (a == b) ≡ b' → b' ≡ false
+          not_same : (a b : ℕ) → slice_get ports a ≡ Some (port.Mesh wire) → slice_get ports b ≡ Some (port.Spoke spoke_wire) → (b' : Bool) → (a == b) ≡ b' → b' ≡ false
           not_same a b one other true is = absurd (cc (sym one ∙ (ap (slice_get ports) (eqb-true a b is) ∙ other)))
           not_same a b one other false is = refl
 

@@ -135,7 +135,7 @@ calm = ap (λ (n : NetworkState). is_calm triangle n one_service) is_healed ∙ 
 
 -- so each learned address points to its site again
 heal : Points triangle (network_after triangle events) one_service site
-heal = runs_heal_moves triangle events (is_run events (omega arith)) before move deliveries [] one_service site refl refl starts refl refl calm
+heal = runs_heal_moves triangle events (is_run events (omega arith)) before move deliveries [] one_service site refl starts refl refl calm
 
 -- the first core edge has forgotten the station that moved, and knows the other one still
 forgotten : has_address (((reached moments).edges 0).learned 0) (record { 0 = 2 ∷ 0 ∷ 0 ∷ 0 ∷ 0 ∷ 1 ∷ [] }) ≡ false

@@ -70,7 +70,7 @@ told_before status (Advertised own before) label content is =
     record { label = own; before = before; was = refl; alike = λ other. ap (λ (t : Told). is_same_but_status t other) same }
 told_before status (Withdrawing own) label content is = absurd (cc (is))
 
-still_told : (status : PwStatus) (local : LocalPart) → is_advertising (tell_part status local) ≡ is_advertising local
+pub still_told : (status : PwStatus) (local : LocalPart) → is_advertising (tell_part status local) ≡ is_advertising local
 still_told status (Idle declined) = refl
 still_told status (Advertised label content) = refl
 still_told status (Withdrawing label) = refl
@@ -124,7 +124,7 @@ mesh_kept plan service me old new checked wires bits ends mesh = record {
         } in
         (ends wire row from.0 is of_mesh (mate_joined row.path me.0 to.0 from (other_side row.path me from to once mated))).stands row from content stands
 
-put_rest : (place : EndPlace) (end : EndState) (edge : EdgeState) → ((with_end place end edge).wire_on ≡ edge.wire_on) × ((with_end place end edge).bits ≡ edge.bits)
+pub put_rest : (place : EndPlace) (end : EndState) (edge : EdgeState) → ((with_end place end edge).wire_on ≡ edge.wire_on) × ((with_end place end edge).bits ≡ edge.bits)
 unfolding with_end
 put_rest place end edge = (refl, refl)
 
@@ -166,13 +166,14 @@ has_other_side row me next once joined inside =
     let found = has_mate row.path next me once (sym (joins_turned row.path me.0 next.0) ∙ joined) neither.0 neither.1 in
     record { from = found.0; mate_is = other_side row.path me next found.0 once found.1; back = found.1 }
 
-module _ (plan : Plan) (edge : EdgeState) (place : EndPlace) (row : WirePlan) (is : wire_row plan place.wire ≡ Some row) (on : edge.wire_on place.wire.0 ≡ true) (up : is_up_with (edge.peering place.peer.0) ≡ true) where
+module _ (plan : Plan) (edge : EdgeState) (place : EndPlace) (row : WirePlan) (is : wire_row plan place.wire ≡ Some row) (on : edge.wire_on place.wire.0 ≡ true)
+    (up : is_up_with (edge.peering place.peer.0) ≡ true) where
   wish_is : wish plan edge place ≡ wish_by plan edge place row
   wish_is = ap (λ (r : Option WirePlan). wish_of plan edge place r) is
       ∙ ap (λ (b : Bool). cond b (wish_by plan edge place row) None) (and_from (edge.wire_on place.wire.0) (is_up_with (edge.peering place.peer.0)) on up)
 
   -- a switching point tells what it holds
-  passed_is : (me from : EdgeId) → edge.me ≡ me → place.terminal ≡ false → mate row me.0 place.peer.0 ≡ Some from
+  pub passed_is : (me from : EdgeId) → edge.me ≡ me → place.terminal ≡ false → mate row me.0 place.peer.0 ≡ Some from
       → wish plan edge place ≡ wanted (own_point row.pw_id (edge_address plan me) (edge_address plan from)) (edge.ends place.wire.0 from.0).remote
   passed_is me from placed passes mated =
       wish_is
@@ -180,14 +181,14 @@ module _ (plan : Plan) (edge : EdgeState) (place : EndPlace) (row : WirePlan) (i
       ∙ (ap (λ (k : EdgeId). passed_from plan row k (held_of edge place.wire) (mate row k.0 place.peer.0)) placed
       ∙ ap (passed_from plan row me (held_of edge place.wire)) mated))
 
-  across_stands : (me from : EdgeId) (content : Told) → edge.me ≡ me → place.terminal ≡ false → mate row me.0 place.peer.0 ≡ Some from
+  pub across_stands : (me from : EdgeId) (content : Told) → edge.me ≡ me → place.terminal ≡ false → mate row me.0 place.peer.0 ≡ Some from
       → StandsFor plan row me from content (edge.ends place.wire.0 from.0).remote → offer_stands place content (wish plan edge place) ≡ true
   across_stands me from content placed passes mated stands =
       ap (offer_stands place content) (passed_is me from placed passes mated
       ∙ ap (wanted (own_point row.pw_id (edge_address plan me) (edge_address plan from))) stands.is)
       ∙ or_right place.terminal _ stands.same
 
-  whole_stands : (content : Told) → place.terminal ≡ true → edge.bits place.wire.0 ≡ 0 → offer_stands place content (wish plan edge place) ≡ true
+  pub whole_stands : (content : Told) → place.terminal ≡ true → edge.bits place.wire.0 ≡ 0 → offer_stands place content (wish plan edge place) ≡ true
   whole_stands content terminal whole = stands_terminal place content (wish plan edge place) terminal
       (ap (λ (o : Option Told). is_some o) wish_is
       ∙ (ap (λ (b : Bool). is_some (cond b (terminal_wish plan edge place (offer_of row edge.me.0)) (passed_wish plan edge place row))) terminal

@@ -1,9 +1,19 @@
 -- An edge that hears octets of a neighbour goes on to heal.
+use Rattle.pw_signalling.specs.declared.binding.Binding.{Binding}
+use Rattle.pw_signalling.specs.End.{EndState}
+use Rattle.edge_model.specs.Labels.{label_to_give}
+use Rattle.net_base.specs.plan.Places.{wire_row}
+use Rattle.net_base.specs.plan.Paths.{mate}
+use Rattle.net_base.specs.declared.plan.wire_plan.WirePlan.{WirePlan}
+use Rattle.flight_laws.specs.Across.{IsMappingTaken, TakesAll, TellsAcross}
+use Rattle.move_laws.proofs.GoesOnLemmas.{tells_go_on}
+use Rattle.move_laws.proofs.StuckLemmas.{stuck_on}
+use Rattle.move_laws.proofs.LastLemmas.{mends_hold}
 use Rattle.pw_messages.specs.Sender.{platform_of}
 use Rattle.address_laws.specs.Sites.{Sites}
 use Rattle.edge_model.proofs.MendLemmas.{SpeaksOn, clears_not, having_spoken_times, mends_speaks}
 use Rattle.edge_model.specs.Hear.{acts, hears_few, hears_one, holds, octets_input, was_up}
-use Rattle.edge_model.specs.Mend.{mends}
+use Rattle.edge_model.specs.Mend.{mends, is_operational, is_up_with}
 use Rattle.edge_model.specs.Session.{clears_ends, comes_of, happens_to, happens_with_ends, is_same_phase, with_session}
 use Rattle.edge_model.specs.State.{Peering, is_there, with_peering}
 use Rattle.edge_model.specs.Work.{Work, changes, gives}
@@ -23,18 +33,18 @@ use Rattle.flight_laws.specs.Pair.{ArePaired, AreTalking}
 use Rattle.flight_laws.specs.Rules.{AllMessages}
 use Rattle.flight_laws.specs.Sound.{TellsSoundly, point_limit}
 use Rattle.flight_laws.proofs.CommonLemmas.{platform_is}
-use Rattle.move_laws.specs.Moves.{has_short_spokes}
 use Rattle.ldp_grammar.specs.declared.ldp_id.LdpId.{LdpId}
 use Rattle.ldp_grammar.specs.declared.message.Message.{Message}
 use Rattle.move_laws.proofs.ForgetLemmas.{forgets_none}
 use Rattle.move_laws.proofs.HearHealLemmas.{HearsHealing, MeshesTo, event_heals, message_heals}
 use Rattle.move_laws.proofs.LiveLemmas.{mends_live}
-use Rattle.move_laws.proofs.MendHealLemmas.{heals_on, mends_heal}
-use Rattle.move_laws.proofs.SettleHealLemmas.{begin_heals, joined_back, there_some}
-use Rattle.move_laws.proofs.SpeakLemmas.{Speaks, mesh_same, mildly_spared, speaks_first}
+use Rattle.move_laws.proofs.MendHealLemmas.{heals_on, mends_heal, hear_same}
+use Rattle.move_laws.proofs.SettleHealLemmas.{begin_heals, there_some}
+use Rattle.move_laws.proofs.JoinLemmas.{joined_back}
+use Rattle.move_laws.proofs.SpeakLemmas.{Speaks, mesh_same, mildly_spared, speaks_first, spokes_same}
 use Rattle.move_laws.proofs.StayLemmas.{speaks_on}
-use Rattle.move_laws.specs.Clearing.{IsMild}
-use Rattle.move_laws.specs.Healing.{HasWays, Heals, IsAtLive, IsHealing, LeavesToHear, SaysMore, SpeaksMildly, TellsChoice, ToHearMildly}
+use Rattle.move_laws.specs.Clearing.{IsMild, IsOnward}
+use Rattle.move_laws.specs.Healing.{HasWays, Heals, IsAtLive, IsHealing, IsMet, Lasts, LeavesToHear, SaysMore, SpeaksMildly, TellsChoice, ToHearMildly, advertises_to, is_advertising, is_stuck}
 use Rattle.net_base.specs.declared.plan.Plan.{Plan}
 use Rattle.net_base.specs.declared.plan.places.EdgeId.{EdgeId}
 use Rattle.net_base.specs.declared.plan.places.ServiceId.{ServiceId}
@@ -46,8 +56,8 @@ use Rattle.network_model.specs.Connection.{hearing_work}
 use Rattle.network_model.specs.State.{NetworkState, held_by, stands, with_pipe}
 use Rattle.session_core.specs.Phase as phase
 use Rattle.session_core.specs.Session.{phase_name}
-use Rattle.session_core.specs.Table.{Goes, Heard, Outcome, Received, SessionEvent, outcome_of}
-use Rattle.std.proofs.Common.{Bool, List, None, Option, Some, [], ap, append_assoc, cond, drop, false, inl, inr, length, nat_eq, option_map, refl, subst, suc, sym, take, take-append-drop, true, zero, ℕ, ◌++◌, ◌<◌, ◌^◌, ◌∙◌, ◌∷◌, ◌≡◌}
+use Rattle.session_core.specs.Table.{Goes, Heard, Outcome, Received, outcome_of}
+use Rattle.std.proofs.Common.{Bool, List, None, Option, Some, [], ap, append_assoc, cond, drop, false, inl, inr, length, nat_eq, option_map, refl, subst, suc, sym, take, take-append-drop, true, zero, ℕ, ◌++◌, ◌<◌, ◌^◌, ◌∙◌, ◌∷◌, ◌≡◌, ⊎_elim, is_some}
 use Rattle.std.proofs.lemmas.Bool.{cases_Bool, eqb-true}
 use Rattle.std.specs.List.{AllByRecursion}
 use Rattle.net_values.proofs.BoolLemmas.{clash}
@@ -70,14 +80,16 @@ module _ (plan : Plan) (service : ServiceId) (network : NetworkState) (me peer :
   kept_speaks base kept now work at still sound speaks = record {
     place = speaks.place;
     sound = sound;
-    speaks = λ place joined stood. split {P = SpeaksMildly plan service network me.0 peer.0 place new} (nat_eq place peer.0)
-        (λ is. subst (λ (k : ℕ). SpeaksMildly plan service network me.0 peer.0 k new) (sym (eqb-true place peer.0 is))
-        (here (subst (λ (k : ℕ). SpeaksMildly plan service network me.0 peer.0 k work) (eqb-true place peer.0 is) (speaks.speaks place joined stood))))
-        (λ away. mildly_spared plan service network me peer.0 place work new (with_peering_spares place peer (Some now) work away) (speaks.speaks place joined stood));
+    speaks = λ place joined stood. split {P = SpeaksMildly plan service network me.0 peer.0 place new (advertises_to new.edge place)} (nat_eq place peer.0)
+        (λ is. subst (λ (k : ℕ). SpeaksMildly plan service network me.0 peer.0 k new (advertises_to new.edge k)) (sym (eqb-true place peer.0 is))
+        (here (subst (λ (k : ℕ). SpeaksMildly plan service network me.0 peer.0 k work (advertises_to work.edge k)) (eqb-true place peer.0 is) (speaks.speaks place joined stood))))
+        (λ away. mildly_spared plan service network me peer.0 place work new (advertises_to work.edge place) (advertises_to new.edge place) (with_peering_spares place peer (Some now) work away)
+        (λ wire row onward. refl) (speaks.speaks place joined stood));
     apart = λ place joined gone. split {P = new.edge.peering place ≡ None} (nat_eq place peer.0)
         (λ is. clash (sym (ap (λ (k : ℕ). stands network me.0 k) (sym (eqb-true place peer.0 is)) ∙ gone) ∙ there))
         (λ away. (with_peering_spares place peer (Some now) work away).kept ∙ speaks.apart place joined gone);
     mesh = mesh_same plan service me.0 work.edge new.edge refl refl refl speaks.mesh;
+    spokes = spokes_same plan service network me work.edge new.edge refl refl refl speaks.spokes;
     more = λ place joined stood. more_again place (speaks.more place joined stood);
   }
     where
@@ -87,7 +99,7 @@ module _ (plan : Plan) (service : ServiceId) (network : NetworkState) (me peer :
       same_kept : (a b : Peering) → Some a ≡ Some b → a ≡ b
       same_kept a b e = cc
 
-      here : SpeaksMildly plan service network me.0 peer.0 peer.0 work → SpeaksMildly plan service network me.0 peer.0 peer.0 new
+      here : SpeaksMildly plan service network me.0 peer.0 peer.0 work (advertises_to work.edge peer.0) → SpeaksMildly plan service network me.0 peer.0 peer.0 new (advertises_to new.edge peer.0)
       here old = record {
         kept = now;
         at = rw (same_number peer.0) refl;
@@ -100,6 +112,7 @@ module _ (plan : Plan) (service : ServiceId) (network : NetworkState) (me peer :
         is = old.is;
         said = old.said;
         mild = old.mild;
+        met = old.met;
       }
 
       more_again : (place : ℕ) → SaysMore plan me.0 place base work → SaysMore plan me.0 place base new
@@ -110,6 +123,17 @@ kept_chosen : (peer : EdgeId) (now : Option Peering) (work : Work) → ((changes
     × ((changes (with_peering peer now) work).edge.learned ≡ work.edge.learned)
 unfolding changes with_peering
 kept_chosen peer now work = (refl, refl)
+
+-- and so are ends, wires, labels and failure bits
+kept_rest : (peer : EdgeId) (now : Option Peering) (work : Work) → ((changes (with_peering peer now) work).edge.ends ≡ work.edge.ends) ×
+    ((changes (with_peering peer now) work).edge.wire_on ≡ work.edge.wire_on)
+    × ((changes (with_peering peer now) work).edge.bits ≡ work.edge.bits) × (label_to_give (changes (with_peering peer now) work).edge ≡ label_to_give work.edge)
+unfolding changes with_peering
+kept_rest peer now work = (refl, refl, refl, refl)
+
+kept_else : (peer : EdgeId) (now : Option Peering) (work : Work) (k : ℕ) → nat_eq k peer.0 ≡ false → (changes (with_peering peer now) work).edge.peering k ≡ work.edge.peering k
+unfolding changes with_peering
+kept_else peer now work k away = rw away refl
 
 kept_here : (peer : EdgeId) (now : Peering) (work : Work) → (changes (with_peering peer (Some now)) work).edge.peering peer.0 ≡ Some now
 unfolding changes with_peering
@@ -144,6 +168,13 @@ held_sound limit peer rest kept work at sound = record {
   ];
 }
 
+-- ---- what each state of a run has
+
+-- what switching points tell is what they hold, and no mapping is refused
+pub record HasTellers (plan : Plan) (network : NetworkState) : Type 0 where
+  pub across : (me from to : EdgeId) (wire : WireId) (row : WirePlan) → wire_row plan wire ≡ Some row → mate row me.0 from.0 ≡ Some to → TellsAcross plan me from to wire row (network.edges me.0)
+  pub taken : (from to : ℕ) → nat_eq from to ≡ false → TakesAll plan network from to
+
 -- ---- octets
 
 -- it has mended, and these messages are still to hear
@@ -151,9 +182,12 @@ pub record HasHealed (plan : Plan) (service : ServiceId) (site : Sites) (network
   pub later : List Message
   pub heals : IsHealing plan service site network me peer.0 later work
   pub live : AllByRecursion (IsAtLive plan service me.0 work.edge) (work.edge.learned service.0)
+  pub met : are_joined_by plan service peer.0 me.0 ≡ true → stands network peer.0 me.0 ≡ true → (wire : WireId) (row : WirePlan) → IsOnward plan service network peer.0 me.0 wire row
+      → IsMet row.pw_id (is_some (work.edge.ends wire.0 peer.0).remote) later (is_advertising ((network.edges peer.0).ends wire.0 me.0).local)
   pub left : are_joined_by plan service peer.0 me.0 ≡ true → stands network peer.0 me.0 ≡ true → LeavesToHear plan service network me.0 peer.0 later (held_by (work.edge.peering peer.0) ++ more)
 
-module _ (plan : Plan) (service : ServiceId) (site : Sites) (calm network : NetworkState) (me peer : EdgeId) (count : ℕ) (checked : IsChecked plan) (types : HasTypes plan) (short : has_short_spokes plan service ≡ true) (ordered : IsOrdered plan network)
+module _ (plan : Plan) (service : ServiceId) (site : Sites) (calm network : NetworkState) (me peer : EdgeId) (count : ℕ) (checked : IsChecked plan) (types : HasTypes plan)
+    (ordered : IsOrdered plan network) (tells : HasTellers plan network)
     (heals : Heals plan service site calm network) (away : nat_eq peer.0 me.0 ≡ false) (there : stands network me.0 peer.0 ≡ true)
     (stand : (core : ℕ) → is_core_edge plan service core ≡ true → nat_eq core me.0 ≡ false → is_core_edge plan service me.0 ≡ true → MeshesTo plan service me.0 core) where
   abbrev pub pipe : List ℕ
@@ -172,13 +206,38 @@ module _ (plan : Plan) (service : ServiceId) (site : Sites) (calm network : Netw
   hearing = hears_kept plan later_network me peer (apart_back peer.0 me.0 away) checked types
 
   ways : HasWays plan service network me
-  ways place joined stood = (heals.steady me.0 place joined stood).0.way
+  ways place joined stood = (heals.steady me.0 place joined stood).0
 
   back : are_joined_by plan service me.0 peer.0 ≡ true → stands network peer.0 me.0 ≡ true
   back joined = has_end ((network.edges peer.0).peering me.0) (heals.steady me.0 peer.0 joined there).1.up
 
   chosen_same : (old new : Work) → new.edge.chosen ≡ old.edge.chosen → TellsChoice plan service network me old new
   chosen_same old new same = record { told = λ wire home spoke chosen. inl (ap (λ (f : ℕ → Option WireId). f service.0) (sym same) ∙ chosen) }
+
+  -- what is kept of the peer says that its session is up, as before
+  kept_up : (kept now : Peering) (work : Work) → work.edge.peering peer.0 ≡ Some kept → IsStill plan service network me peer there kept now → (k : ℕ)
+      → is_up_with ((changes (with_peering peer (Some now)) work).edge.peering k) ≡ is_up_with (work.edge.peering k)
+  kept_up kept now work at still k = split {P = is_up_with ((changes (with_peering peer (Some now)) work).edge.peering k) ≡ is_up_with (work.edge.peering k)} (nat_eq k peer.0)
+      (λ is. subst (λ (n : ℕ). is_up_with ((changes (with_peering peer (Some now)) work).edge.peering n) ≡ is_up_with (work.edge.peering n)) (sym (eqb-true k peer.0 is))
+      (ap (λ (o : Option Peering). is_up_with o) (kept_here peer now work) ∙ (ap (λ (p : _). is_operational p) still.phase ∙ sym (ap (λ (o : Option Peering). is_up_with o) at))))
+      (λ away. ap (λ (o : Option Peering). is_up_with o) (kept_else peer (Some now) work k away))
+
+  kept_stuck : (kept now : Peering) (work : Work) → work.edge.peering peer.0 ≡ Some kept → IsStill plan service network me peer there kept now → (wire k : ℕ)
+      → is_stuck work.edge wire k ≡ true → is_stuck (changes (with_peering peer (Some now)) work).edge wire k ≡ true
+  kept_stuck kept now work at still wire k =
+      let rest = kept_rest peer (Some now) work in
+      stuck_on work.edge (changes (with_peering peer (Some now)) work).edge wire k rest.1 (kept_up kept now work at still k) (λ none. rest.3 ∙ none)
+      (ap (λ (f : ℕ → ℕ → EndState). (f wire k).local) rest.0)
+
+  kept_lasts : (kept now : Peering) (work : Work) → work.edge.peering peer.0 ≡ Some kept → IsStill plan service network me peer there kept now
+      → Lasts plan service me.0 peer.0 work.edge (changes (with_peering peer (Some now)) work).edge
+  kept_lasts kept now work at still =
+      let rest = kept_rest peer (Some now) work in
+      record {
+        bits = rest.2;
+        remotes = λ wire k away. ap (λ (f : ℕ → ℕ → EndState). (f wire k).remote) rest.0;
+        stuck = λ wire k joined. kept_stuck kept now work at still wire k;
+      }
 
   -- something else is kept for the peer
   kept_heals : (messages : List Message) (kept now : Peering) (work : Work) → work.edge.peering peer.0 ≡ Some kept → IsStill plan service network me peer there kept now
@@ -187,19 +246,36 @@ module _ (plan : Plan) (service : ServiceId) (site : Sites) (calm network : Netw
   kept_heals messages kept now work at still sound healing =
       let new : Work = changes (with_peering peer (Some now)) work in
       let same = kept_chosen peer (Some now) work in
-      heals_on plan service site network me peer.0 messages work new
+      heals_on plan service site network me peer.0 messages messages work new
       (speaks_on plan service network me peer.0 work new healing.stays
-      (kept_speaks plan service network me peer there work kept now work at still sound (speaks_first plan service network me peer.0 work healing.stays)) (forgets_none service work new same.1))
-      (chosen_same work new same.0) healing
+      (kept_speaks plan service network me peer there work kept now work at still sound (speaks_first plan service network me peer.0 work healing.stays)) (kept_lasts kept now work at still)
+      (forgets_none service work new same.1))
+      (chosen_same work new same.0)
+      (hear_same plan service network me.0 peer.0 messages work.edge new.edge (λ wire. ap (λ (f : ℕ → ℕ → EndState). (f wire peer.0).remote) (kept_rest peer (Some now) work).0)) healing
+
+  kept_hears : (messages : List Message) (kept now : Peering) (work : Work) → work.edge.peering peer.0 ≡ Some kept → IsStill plan service network me peer there kept now
+      → TellsSoundly (point_limit plan me.0) (changes (with_peering peer (Some now)) work).edge
+      → HearsHealing plan service site network me peer.0 messages work → HearsHealing plan service site network me peer.0 messages (changes (with_peering peer (Some now)) work)
+  kept_hears messages kept now work at still sound hears =
+      let rest = kept_rest peer (Some now) work in
+      record {
+        heals = kept_heals messages kept now work at still sound hears.heals;
+        mild = hears.mild;
+        met = λ joined stood wire row onward. subst (λ (f : ℕ → ℕ → EndState). IsMet row.pw_id (is_some (f wire.0 peer.0).remote) messages
+            (is_advertising ((network.edges peer.0).ends wire.0 me.0).local))
+            (sym rest.0) (hears.met joined stood wire row onward);
+        taken = hears.taken;
+        goes_on = λ wire row from to onward mated held. ⊎_elim
+            (λ (told : is_advertising (work.edge.ends wire.0 to.0).local ≡ true). inl (ap (λ (f : ℕ → ℕ → EndState). is_advertising (f wire.0 to.0).local) rest.0 ∙ told))
+            (λ (stuck : is_stuck work.edge wire.0 to.0 ≡ true). inr (kept_stuck kept now work at still wire.0 to.0 stuck))
+            (hears.goes_on wire row from to onward mated (ap (λ (f : ℕ → ℕ → EndState). is_some (f wire.0 from.0).remote) (sym rest.0) ∙ held));
+      }
 
   sender_heals : (messages : List Message) (work : Work) → Both messages work
       → HearsHealing plan service site network me peer.0 messages (happens_with_ends taken_all peer (Heard (platform_of (ends_at plan peer.0 me.0).me)) work)
-  sender_heals messages work both = record { heals = by (are_joined_by plan service me.0 peer.0) refl; mild = both.1.mild } where
-    event : SessionEvent
-    event = Heard (platform_of (ends_at plan peer.0 me.0).me)
-
+  sender_heals messages work both = by (are_joined_by plan service me.0 peer.0) refl where
     up_here : are_joined_by plan service me.0 peer.0 ≡ true
-        → IsHealing plan service site network me peer.0 messages (happens_with_ends taken_all peer (Heard (platform_of (ends_at plan peer.0 me.0).me)) work)
+        → HearsHealing plan service site network me peer.0 messages (happens_with_ends taken_all peer (Heard (platform_of (ends_at plan peer.0 me.0).me)) work)
     up_here joined =
         let mildly = both.1.heals.stays.speaks peer.0 joined there in
         let talk : AreTalking (ends_at plan me.0 peer.0) (ends_at plan peer.0 me.0) (Some mildly.kept) ((later_network.edges peer.0).peering me.0) both.0.meets.messages messages =
@@ -207,16 +283,28 @@ module _ (plan : Plan) (service : ServiceId) (site : Sites) (calm network : Netw
         let goes : outcome_of mildly.kept.session (Heard (platform_of (ends_at plan peer.0 me.0).me)) ≡ Goes (record mildly.kept.session { wait = 0 }) [] =
         said_sender mildly.kept.session (ends_at plan peer.0 me.0).me (platform_is (ends_at plan me.0 peer.0) (ends_at plan peer.0 me.0) mildly.kept talk.here) in
         let is = heard_is peer (platform_of (ends_at plan peer.0 me.0).me) mildly.kept work mildly.at mildly.up goes in
-        subst (IsHealing plan service site network me peer.0 messages) (sym is)
-        (kept_heals messages mildly.kept (with_session (record mildly.kept.session { wait = 0 }) mildly.kept) work mildly.at (record { phase = refl; peers = refl; number = refl })
+        subst (HearsHealing plan service site network me peer.0 messages) (sym is)
+        (kept_hears messages mildly.kept (with_session (record mildly.kept.session { wait = 0 }) mildly.kept) work mildly.at (record { phase = refl; peers = refl; number = refl })
         (subst (λ (w : Work). TellsSoundly (point_limit plan me.0) w.edge) is
-        (happens_sound taken_all peer (Heard (platform_of (ends_at plan peer.0 me.0).me)) work both.1.heals.stays.sound)) both.1.heals)
+        (happens_sound taken_all peer (Heard (platform_of (ends_at plan peer.0 me.0).me)) work both.1.heals.stays.sound)) both.1)
+
+    not_here : are_joined_by plan service me.0 peer.0 ≡ false
+        → HearsHealing plan service site network me peer.0 messages (happens_with_ends taken_all peer (Heard (platform_of (ends_at plan peer.0 me.0).me)) work)
+    not_here apart =
+        let event = event_heals plan service site network me peer checked types ways (Heard (platform_of (ends_at plan peer.0 me.0).me)) messages work apart
+        (happens_sound taken_all peer (Heard (platform_of (ends_at plan peer.0 me.0).me)) work both.1.heals.stays.sound) both.1.heals in
+        record {
+          heals = event.heals;
+          mild = both.1.mild;
+          met = λ joined stood wire row onward. clash (sym apart ∙ joined_back plan service peer.0 me.0 joined);
+          taken = both.1.taken;
+          goes_on = event.goes_on both.1.goes_on;
+        }
 
     by : (b : Bool) → are_joined_by plan service me.0 peer.0 ≡ b
-        → IsHealing plan service site network me peer.0 messages (happens_with_ends taken_all peer (Heard (platform_of (ends_at plan peer.0 me.0).me)) work)
+        → HearsHealing plan service site network me peer.0 messages (happens_with_ends taken_all peer (Heard (platform_of (ends_at plan peer.0 me.0).me)) work)
     by true joined = up_here joined
-    by false apart = event_heals plan service site network me peer checked types short ways (Heard (platform_of (ends_at plan peer.0 me.0).me)) messages work apart
-        (happens_sound taken_all peer (Heard (platform_of (ends_at plan peer.0 me.0).me)) work both.1.heals.stays.sound) both.1.heals
+    by false apart = not_here apart
 
   hears_sound : (m : Message) (messages : List Message) (work : Work) → IsSaidAcross (ends_at plan peer.0 me.0) m → Hearing (m ∷ messages) work
       → TellsSoundly (point_limit plan me.0) (hears_one plan taken_all peer m work).edge
@@ -234,19 +322,19 @@ module _ (plan : Plan) (service : ServiceId) (site : Sites) (calm network : Netw
         sender = λ messages work both. (base.sender messages work both.0, sender_heals messages work both);
         message = λ m messages work said others both. (
           base.message m messages work said others both.0,
-          message_heals plan service site network me peer checked types short ways m messages work stand back there said (happens_sound taken_all peer (Received m) work both.0.sound)
+          message_heals plan service site network me peer checked types ways m messages work stand back there said (happens_sound taken_all peer (Received m) work both.0.sound)
               (hears_sound m messages work said both.0) both.1,
         );
       }
 
   -- the octets that are no whole message yet
-  holds_heal : (messages : List Message) (rest : List ℕ) (work : Work) → Both messages work → rest ++ drop count pipe ≡ octets_of_all (ends_at plan peer.0 me.0).me messages
-      → IsHealing plan service site network me peer.0 messages (holds peer rest (work.edge.peering peer.0) work)
-  holds_heal messages rest work both behind = by (work.edge.peering peer.0) refl where
-    by : (near : Option Peering) → work.edge.peering peer.0 ≡ near → IsHealing plan service site network me peer.0 messages (holds peer rest near work)
-    by None at = both.1.heals
-    by (Some kept) at = kept_heals messages kept (record kept { held = rest }) work at (record { phase = refl; peers = refl; number = refl })
-        (held_sound (point_limit plan me.0) peer rest kept work at both.0.sound) both.1.heals
+  holds_hear : (messages : List Message) (rest : List ℕ) (work : Work) → Both messages work → rest ++ drop count pipe ≡ octets_of_all (ends_at plan peer.0 me.0).me messages
+      → HearsHealing plan service site network me peer.0 messages (holds peer rest (work.edge.peering peer.0) work)
+  holds_hear messages rest work both behind = by (work.edge.peering peer.0) refl where
+    by : (near : Option Peering) → work.edge.peering peer.0 ≡ near → HearsHealing plan service site network me peer.0 messages (holds peer rest near work)
+    by None at = both.1
+    by (Some kept) at = kept_hears messages kept (record kept { held = rest }) work at (record { phase = refl; peers = refl; number = refl })
+        (held_sound (point_limit plan me.0) peer rest kept work at both.0.sound) both.1
 
   held_times : (n : ℕ) (kept : Peering) → (having_spoken_times n kept).held ≡ kept.held
   held_times zero kept = refl
@@ -255,11 +343,14 @@ module _ (plan : Plan) (service : ServiceId) (site : Sites) (calm network : Netw
   -- all that is heard at once
   heard_heals : (result : Work) → HasHeard peer (ends_at plan peer.0 me.0) Both (drop count pipe) result → HasHealed plan service site network me peer (drop count pipe) (mends plan taken_all result)
   heard_heals result heard =
-      let healing : IsHealing plan service site network me peer.0 heard.later result =
-      subst (IsHealing plan service site network me peer.0 heard.later) (sym heard.is) (holds_heal heard.later heard.rest heard.last heard.keeps heard.behind) in
+      let hears : HearsHealing plan service site network me peer.0 heard.later result =
+      subst (HearsHealing plan service site network me peer.0 heard.later) (sym heard.is) (holds_hear heard.later heard.rest heard.last heard.keeps heard.behind) in
+      let healing : IsHealing plan service site network me peer.0 heard.later result = hears.heals in
       record {
         later = heard.later;
-        heals = mends_heal plan service site network me peer.0 heard.later result checked types short ways healing;
+        heals = mends_heal plan service site network me peer.0 heard.later result checked types ways healing;
+        met = λ joined stood wire row onward. subst (λ (o : Option Binding). IsMet row.pw_id (is_some o) heard.later (is_advertising ((network.edges peer.0).ends wire.0 me.0).local))
+            (sym ((mends_hold plan me result healing.stays.place).held wire.0 peer.0)) (hears.met joined stood wire row onward);
         live = mends_live plan service me result checked healing.stays.place;
         left = λ joined stood. record {
           is = ap (λ (l : List ℕ). l ++ drop count pipe) (held_is joined) ∙ heard.behind;
@@ -283,8 +374,16 @@ module _ (plan : Plan) (service : ServiceId) (site : Sites) (calm network : Netw
     from kept at =
         subst (HasHealed plan service site network me peer (drop count pipe)) (sym work_is)
         (heard_heals (hears_few plan taken_all peer (suc (length octets)) octets begun)
-        (few_heard plan peer (ends_at plan peer.0 me.0) pair.talk.here.between.two Both both_kept (suc (length octets)) octets (drop count pipe) pair.answers begun pair.talk.answered whole
-        (hears_begin plan peer me (drop count pipe) network kept ordered away at pair, record { heals = began; mild = mild })))
+        (few_heard plan peer (ends_at plan peer.0 me.0) pair.talk.here.between.two Both both_kept (suc (length octets)) octets (drop count pipe) pair.answers begun pair.talk.answered whole (
+          hears_begin plan peer me (drop count pipe) network kept ordered away at pair,
+          record {
+            heals = began;
+            mild = mild;
+            met = met;
+            taken = taken;
+            goes_on = tells_go_on plan service network me (network.edges me.0) (λ from to wire row is mated. tells.across me from to wire row is mated) (heals.spokes me);
+          },
+        )))
       where
         octets : List ℕ
         octets = kept.held ++ take count pipe
@@ -308,9 +407,23 @@ module _ (plan : Plan) (service : ServiceId) (site : Sites) (calm network : Netw
         mild = record {
           mild = λ joined stood.
               let way = (heals.steady peer.0 me.0 joined stood).0.way in
-              subst (AllMessages (IsMild plan service peer.0 me.0))
+              subst (AllMessages (IsMild plan service network peer.0 me.0))
               (said_once (ends_at plan peer.0 me.0) way.messages pair.answers pair.talk.here.between.two way.said pair.talk.answered (sym way.is ∙ flight_is)) way.mild;
         }
+
+        met : are_joined_by plan service peer.0 me.0 ≡ true → stands network peer.0 me.0 ≡ true → (wire : WireId) (row : WirePlan) → IsOnward plan service network peer.0 me.0 wire row
+            → IsMet row.pw_id (is_some ((network.edges me.0).ends wire.0 peer.0).remote) pair.answers (is_advertising ((network.edges peer.0).ends wire.0 me.0).local)
+        met joined stood wire row onward =
+            let steady = (heals.steady peer.0 me.0 joined stood).0 in
+            subst (λ (ms : List Message). IsMet row.pw_id (is_some ((network.edges me.0).ends wire.0 peer.0).remote) ms (is_advertising ((network.edges peer.0).ends wire.0 me.0).local))
+            (said_once (ends_at plan peer.0 me.0) steady.way.messages pair.answers pair.talk.here.between.two steady.way.said pair.talk.answered (sym steady.way.is ∙ flight_is))
+            (steady.met wire row onward)
+
+        taken : AllMessages (IsMappingTaken plan me.0 peer.0) pair.answers
+        taken =
+            let all : TakesAll plan network peer.0 me.0 = tells.taken peer.0 me.0 away in
+            subst (AllMessages (IsMappingTaken plan me.0 peer.0))
+            (said_once (ends_at plan peer.0 me.0) all.messages pair.answers pair.talk.here.between.two all.on_way.said pair.talk.answered (sym all.on_way.octets ∙ flight_is)) all.taken
 
         began : IsHealing plan service site network me peer.0 pair.answers begun
         began = begin_heals plan service site calm network me peer.0 pair.answers checked ordered heals (λ joined stood. record { is = flight_is; said = pair.talk.answered; mild = mild })

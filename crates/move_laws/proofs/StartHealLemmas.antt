@@ -1,4 +1,9 @@
 -- A calm service whose addresses point to their sites heals.
+use Rattle.pw_signalling.specs.declared.binding.Binding.{Binding}
+use Rattle.flight_laws.specs.Binding.{advertised_by, is_withdrawing, is_idle}
+use Rattle.move_laws.proofs.StayLemmas.{onward_joined}
+use Rattle.move_laws.proofs.JoinLemmas.{joined_back}
+use Rattle.move_laws.proofs.OctetsHealLemmas.{HasTellers}
 use Rattle.address_laws.specs.Points.{PointsToSite}
 use Rattle.address_laws.specs.Sites.{Sites}
 use Rattle.address_laws.specs.Stretch.{StartsRight}
@@ -9,14 +14,14 @@ use Rattle.edge_model.specs.Role.{down_at, role_at}
 use Rattle.edge_model.specs.State.{end_at}
 use Rattle.flight_laws.proofs.BoundRunLemmas.{runs_settle}
 use Rattle.flight_laws.proofs.NameLemmas.{split}
-use Rattle.flight_laws.proofs.AcrossLemmas.{runs_tell_across}
+use Rattle.flight_laws.proofs.AcrossLemmas.{runs_tell_across, runs_take_mappings}
 use Rattle.flight_laws.proofs.PlaceLemmas.{NamedEnd, end_of, named_is}
 use Rattle.flight_laws.proofs.RuledMendLemmas.{wire_fits}
-use Rattle.flight_laws.specs.Across.{PassesOn, TellsAcross}
+use Rattle.flight_laws.specs.Across.{PassesOn}
 use Rattle.flight_laws.proofs.RunLemmas.{run_ordered}
 use Rattle.flight_laws.specs.Ends.{IsOrdered}
 use Rattle.flight_laws.specs.Facts.{flight}
-use Rattle.flight_laws.specs.Laws.{AreSettled, IsRun, IsUp, network_after}
+use Rattle.flight_laws.specs.Laws.{AreSettled, IsRun, IsUp, network_after, HasAgreed, OfWires}
 use Rattle.flood_laws.proofs.FarLemmas.{are_settled}
 use Rattle.flood_laws.proofs.LinkLemmas.{IsLink, link_at}
 use Rattle.flood_laws.proofs.MeshLemmas.{mesh_carries, port_at}
@@ -31,11 +36,10 @@ use Rattle.move_laws.proofs.EndHealLemmas.{IsBehindSpoke, IsBeside, IsPortWire, 
 use Rattle.move_laws.proofs.ForwardLemmas.{advertises_it, forwards_whole}
 use Rattle.move_laws.proofs.LiveSpokeLemmas.{IsLiveAt, carries_ends, forwards_end, has_meshes, home_same, live_at, live_same, quiet_way, spoke_at_link}
 use Rattle.move_laws.proofs.MendedHealLemmas.{HasMended, run_mended}
-use Rattle.move_laws.proofs.PendingLemmas.{all_weaker}
+use Rattle.move_laws.proofs.PendingLemmas.{all_weaker, of_service_joined, spoke_ours}
 use Rattle.move_laws.proofs.KeepMeshLemmas.{HasOtherSide, has_other_side}
 use Rattle.move_laws.proofs.WireLemmas.{HasFar, HasNext, IsLinkEnd, IsSpokeOf, link_end, mesh_far, next_of, spoke_of}
-use Rattle.move_laws.specs.Clearing.{IsMildWay}
-use Rattle.move_laws.specs.Healing.{EntryHeals, Heals, IsAtLive, IsRight, IsSpokeTo, IsSteady, IsWireTo, IsWithdrawalPending, KeepsMesh, LeadsHome, StandsFor, chosen_in, is_advertising, learned_in}
+use Rattle.move_laws.specs.Healing.{EntryHeals, Heals, IsAtLive, IsRight, IsSpokeTo, IsSteady, IsWireTo, KeepsMesh, KeepsSpokes, LeadsHome, StandsFor, chosen_in, is_advertising, learned_in, ways_of}
 use Rattle.net_base.specs.declared.plan.Plan.{Plan}
 use Rattle.net_base.specs.declared.plan.circuit_plan.CircuitPlan.{CircuitPlan}
 use Rattle.net_base.specs.declared.plan.places.CircuitId.{CircuitId}
@@ -45,7 +49,7 @@ use Rattle.net_base.specs.declared.plan.places.WireId.{WireId}
 use Rattle.net_base.specs.declared.plan.wire_plan.WirePlan.{WirePlan}
 use Rattle.net_base.specs.declared.trace.event.Event.{Event}
 use Rattle.net_base.specs.plan.Accepted.{IsChecked, IsCircuitOf}
-use Rattle.net_base.specs.plan.Paths.{edge_address, joins, mate, mate_on}
+use Rattle.net_base.specs.plan.Paths.{edge_address, joins, mate, mate_on, is_first}
 use Rattle.net_base.specs.plan.Places.{circuit_row, is_mesh_class, wire_row}
 use Rattle.net_base.specs.plan.Roles.{are_joined_by, has_port, is_circuit_at, is_core_edge, is_mesh_of, is_spoke_edge, is_wire_of, wire_ends_at}
 use Rattle.network_model.specs.Calm.{carries, has_live_spokes, is_calm, is_full, is_quiet, is_settled}
@@ -58,9 +62,9 @@ use Rattle.pw_stitch.proofs.ChangeLemmas.{same_without_status}
 use Rattle.pw_stitch.specs.Change.{without_status}
 use Rattle.pw_stitch.specs.Passing.{own_point, past_point}
 use Rattle.pw_stitch.specs.Stitch.{has_told}
-use Rattle.std.proofs.Common.{Bool, List, None, Option, Some, [], ap, cond, false, inl, inr, length, not, refl, slice_get, subst, suc, sym, true, ℕ, ⊎_elim, ◌&&◌, ◌<◌, ◌==◌, ◌||◌, ◌∙◌, ◌∷◌, ◌≡◌}
+use Rattle.std.proofs.Common.{Bool, List, None, Option, Some, [], ap, cond, false, inl, inr, length, not, refl, slice_get, subst, suc, sym, true, ℕ, ⊎_elim, ◌&&◌, ◌<◌, ◌==◌, ◌||◌, ◌∙◌, ◌∷◌, ◌≡◌, is_some}
 use Rattle.std.proofs.lemmas.Bool.{and_from, cases_Bool, eqb-true}
-use Rattle.std.specs.List.{list_any}
+use Rattle.std.specs.List.{list_any, AllByRecursion}
 use Rattle.net_values.proofs.BoolLemmas.{first_holds, clash, second_holds}
 use Rattle.net_values.proofs.OptionLemmas.{some_same}
 use Rattle.net_values.proofs.RowLemmas.{row_holds}
@@ -121,11 +125,22 @@ carried_told : (plan : Plan) (network : NetworkState) (wire : WireId) (row : Wir
 carried_told plan network wire row me from to checked placed is live mated =
     told_advertises ((network.edges me.0).ends wire.0 to.0).local (relay_bound plan network wire row me from to checked placed is live mated).advertises
 
+-- ---- failure bits that are seen
+
+-- the network with other failure bits at its edges
+abbrev pub seen_as : (ℕ → ℕ → ℕ) → NetworkState → NetworkState
+seen_as sight network = record network { edges = λ a. record (network.edges a) { bits = sight a } }
+
+-- a path begins with one edge
+one_first : (a b : ℕ) (path : List EdgeId) → is_first a path ≡ true → is_first b path ≡ true → a ≡ b
+one_first a b [] one other = clash one
+one_first a b (first ∷ rest) one other = eqb-true a first.0 one ∙ sym (eqb-true b first.0 other)
+
 -- ---- the state
 
 module _ (plan : Plan) (service : ServiceId) (site : Sites) (network : NetworkState) (checked : IsChecked plan) (ordered : IsOrdered plan network)
     (settle : (a b : ℕ) → are_joined_by plan service a b ≡ true → AreSettled plan network a b) (mended : HasMended plan network)
-    (tells : (me from to : EdgeId) (wire : WireId) (row : WirePlan) → wire_row plan wire ≡ Some row → mate row me.0 from.0 ≡ Some to → TellsAcross plan me from to wire row (network.edges me.0)) (starts : StartsRight plan network service site) where
+    (tells : HasTellers plan network) (starts : StartsRight plan network service site) where
   quiet : is_quiet plan network service ≡ true
   quiet = first_holds (is_quiet plan network service) (is_full plan network service)
       (first_holds (is_quiet plan network service && is_full plan network service) (has_live_spokes plan network service) starts.calm)
@@ -136,19 +151,47 @@ module _ (plan : Plan) (service : ServiceId) (site : Sites) (network : NetworkSt
       are_settled plan network service a b (record { 0 = found.k }) found.row checked found.is (first_holds (is_wire_of service found.row) (joins a b found.row.path) found.passes)
       (second_holds (is_wire_of service found.row) (joins a b found.row.path) found.passes) quiet
 
-  still_way : (a b : ℕ) → flight network a b ≡ [] → IsMildWay plan service a b (flight network a b)
-  still_way a b none = record { messages = []; is = none; said = tt; mild = tt }
-
   up_is : (a b : ℕ) → IsUp network a b → is_up_with ((network.edges a).peering b) ≡ true
   up_is a b up = ap is_up_with up.is ∙ ap is_operational up.up
 
-  steady_here : (a b : ℕ) → are_joined_by plan service a b ≡ true → stands network a b ≡ true → IsSteady plan service network a b × IsSteady plan service network b a
-  steady_here a b joined there =
+  -- other failure bits
+  abbrev Seen : (ℕ → ℕ → ℕ) → NetworkState
+  Seen sight = seen_as sight network
+
+  bound_told : (local : LocalPart) → is_some (advertised_by local) ≡ is_advertising local
+  bound_told (Idle declined) = refl
+  bound_told (Advertised label content) = refl
+  bound_told (Withdrawing label) = refl
+
+  still_steady : (sight : ℕ → ℕ → ℕ) (a b : ℕ) → IsUp network a b → OfWires plan network a b HasAgreed → flight network a b ≡ [] → IsSteady plan service (Seen sight) a b
+  still_steady sight a b up agreed none = record {
+    up = up_is a b up;
+    way = record { messages = []; is = none; said = tt; mild = tt };
+    met = λ wire row onward. record {
+      agrees = ap (λ (o : Option Binding). is_some o) (agreed wire row onward.is (onward_joined a b wire row onward)).far ∙ bound_told ((network.edges a).ends wire.0 b).local;
+      unbound = refl;
+    };
+  }
+
+  steady_here : (sight : ℕ → ℕ → ℕ) (a b : ℕ) → are_joined_by plan service a b ≡ true → stands network a b ≡ true → IsSteady plan service (Seen sight) a b × IsSteady plan service (Seen sight) b a
+  steady_here sight a b joined there =
       let way = quiet_way network a b (settled_here a b joined) there in
       let up = (settle a b joined).up (record { one = there; other = way.back }) in
-      (record { up = up_is a b up.0; way = still_way a b way.out }, record { up = up_is b a up.1.0; way = still_way b a way.home })
+      let turned = (settle b a (joined_back plan service a b joined)).up (record { one = way.back; other = there }) in
+      (still_steady sight a b up.0 up.1.1 way.out, still_steady sight b a up.1.0 turned.1.1 way.home)
 
   -- ---- mesh wires
+
+  -- what a switching point tells stands for what it holds
+  passed_stands : (me from to : EdgeId) (wire : WireId) (row : WirePlan) (label : ℕ) (content : Told) → wire_row plan wire ≡ Some row → mate row me.0 from.0 ≡ Some to
+      → ((network.edges me.0).ends wire.0 to.0).local ≡ Advertised label content → StandsFor plan row me from content ((network.edges me.0).ends wire.0 from.0).remote
+  passed_stands me from to wire row label content is mated at =
+      let passes : PassesOn plan me from to wire row (network.edges me.0) content = (tells.across me from to wire row is mated).advertised label content at in
+      record {
+        binding = passes.binding;
+        is = passes.held;
+        same = (same_without_status content (past_point (own_point row.pw_id (edge_address plan me) (edge_address plan from)) passes.binding.told)).1 (ap without_status passes.content_is);
+      }
 
   abbrev edge_of : ℕ → EdgeId
   edge_of a = record { 0 = a }
@@ -160,7 +203,8 @@ module _ (plan : Plan) (service : ServiceId) (site : Sites) (network : NetworkSt
   mesh_live wire row is mesh = mesh_carries plan network service wire.0 row checked starts.calm is mesh
 
   -- at a terminal edge
-  module _ (a : ℕ) (wire : WireId) (row : WirePlan) (peer : EdgeId) (is : wire_row plan wire ≡ Some row) (mesh : is_mesh_of service row ≡ true) (joined : joins a peer.0 row.path ≡ true) (ends : is_terminal row (edge_of a) ≡ true) where
+  module _ (a : ℕ) (wire : WireId) (row : WirePlan) (peer : EdgeId) (is : wire_row plan wire ≡ Some row) (mesh : is_mesh_of service row ≡ true) (joined : joins a peer.0 row.path ≡ true)
+      (ends : is_terminal row (edge_of a) ≡ true) where
     forward : end_forwards plan (network.edges a) wire ≡ true
     forward =
         let link : IsLink plan row = link_at plan wire.0 row checked is in
@@ -213,13 +257,41 @@ module _ (plan : Plan) (service : ServiceId) (site : Sites) (network : NetworkSt
 
     across : (wire : WireId) (row : WirePlan) (from to : EdgeId) (label : ℕ) (content : Told) → wire_row plan wire ≡ Some row → is_mesh_of service row ≡ true → mate row a from.0 ≡ Some to
         → ((network.edges a).ends wire.0 to.0).local ≡ Advertised label content → StandsFor plan row (edge_of a) from content ((network.edges a).ends wire.0 from.0).remote
-    across wire row from to label content is mesh mated at =
-        let passes : PassesOn plan (edge_of a) from to wire row (network.edges a) content = (tells (edge_of a) from to wire row is mated).advertised label content at in
-        record {
-          binding = passes.binding;
-          is = passes.held;
-          same = (same_without_status content (past_point (own_point row.pw_id (edge_address plan (edge_of a)) (edge_address plan from)) passes.binding.told)).1 (ap without_status passes.content_is);
-        }
+    across wire row from to label content is mesh mated at = passed_stands (edge_of a) from to wire row label content is mated at
+
+  -- ---- spokes
+
+  idle_not : (local : LocalPart) → is_idle local ≡ true → is_withdrawing local ≡ false
+  idle_not (Idle declined) is = refl
+  idle_not (Advertised label content) is = refl
+  idle_not (Withdrawing label) is = clash is
+
+  waits_not : (a b : ℕ) (wire : WireId) (row : WirePlan) → wire_row plan wire ≡ Some row → joins a b row.path ≡ true → are_joined_by plan service a b ≡ true
+      → is_withdrawing ((network.edges a).ends wire.0 b).local ≡ false
+  waits_not a b wire row is joined by_service = by (stands network a b) refl where
+    by : (x : Bool) → stands network a b ≡ x → is_withdrawing ((network.edges a).ends wire.0 b).local ≡ false
+    by true there =
+        let way = quiet_way network a b (settled_here a b by_service) there in
+        (((settle a b by_service).up (record { one = there; other = way.back })).1.1 wire row is joined).one_waits_not
+    by false gone = idle_not ((network.edges a).ends wire.0 b).local ((settle a b by_service).apart gone (back (stands network b a) refl) wire row is joined).one_idle where
+      back : (y : Bool) → stands network b a ≡ y → y ≡ false
+      back true there = clash (sym gone ∙ (quiet_way network b a (settled_here b a (joined_back plan service a b by_service)) there).back)
+      back false there = refl
+
+  spokes_here : (sight : ℕ → ℕ → ℕ) (a : EdgeId) → KeepsSpokes plan service (Seen sight) a ((Seen sight).edges a.0)
+  spokes_here sight a = record {
+    waits_not = λ wire row next onward. waits_not a.0 next wire row onward.is (onward_joined a.0 next wire row onward)
+        (of_service_joined plan service a.0 next wire row onward.is (spoke_ours service onward.edge row onward.from) onward.next);
+    whole = λ wire row next onward first. ap (λ (k : ℕ). sight k wire.0) (one_first a.0 onward.edge row.path first
+        (second_holds (is_wire_of service row && not (is_mesh_class row.class)) (is_first onward.edge row.path) onward.from)) ∙ onward.whole;
+    on = λ wire row next onward told.
+        (let near : NamedEnd plan a (record { 0 = next }) wire row = end_of plan a (record { 0 = next }) wire row checked onward.is (onward_joined a.0 next wire row onward) in
+        let same : is_advertising (end_at (network.edges a.0) near.place).local ≡ true =
+        ap (λ (w : WireId). is_advertising ((network.edges a.0).ends w.0 near.place.peer.0).local) near.wire_is
+        ∙ (ap (λ (e : EdgeId). is_advertising ((network.edges a.0).ends wire.0 e.0).local) near.peer_is ∙ told) in
+        ap (λ (w : WireId). (network.edges a.0).wire_on w.0) (sym near.wire_is) ∙ mended.on a.0 near.place (named_is plan a (record { 0 = next }) row.pw_id near.place near.named).holds same);
+    across = λ wire row from to label content onward mated at. passed_stands a from to wire row label content onward.is mated at;
+  }
 
   -- ---- entries
 
@@ -238,7 +310,8 @@ module _ (plan : Plan) (service : ServiceId) (site : Sites) (network : NetworkSt
   no_both : {P : Type 0} (e : ℕ) → is_core_edge plan service e ≡ true → is_spoke_edge plan service e ≡ true → P
   no_both e core spoke = clash (ap not (sym spoke) ∙ second_holds (has_port plan service e) (not (is_spoke_edge plan service e)) core)
 
-  module _ (core : ℕ) (core_is : is_core_edge plan service core ≡ true) (entry : MacEntry) (points : PointsToSite plan network service site core entry) (x : ℕ) (wire : WireId) (home : ℕ) (spoke : IsSpokeTo plan service x wire home)
+  module _ (core : ℕ) (core_is : is_core_edge plan service core ≡ true) (entry : MacEntry) (points : PointsToSite plan network service site core entry) (x : ℕ) (wire : WireId) (home : ℕ)
+      (spoke : IsSpokeTo plan service x wire home)
       (chosen : (network.edges x).chosen service.0 ≡ Some wire) (there : at_edge_of plan service x (site entry.address.0) ≡ true) where
     abbrev circuit : CircuitId
     circuit = site entry.address.0
@@ -321,24 +394,45 @@ module _ (plan : Plan) (service : ServiceId) (site : Sites) (network : NetworkSt
       (λ here. subst (λ (n : ℕ). end_forwards plan (network.edges n) wire ≡ true) (sym (eqb-true e wired.link.near.0 here)) both.0)
       (λ away. subst (λ (n : ℕ). end_forwards plan (network.edges n) wire ≡ true) (sym (at_far plan service e wired.row wired.link wired.ends away)) both.1)
 
-  pub starts_heal : Heals plan service site network network
-  starts_heal = record {
-    steady = steady_here;
-    mesh = mesh_here;
+  -- with other failure bits too, but for those of mesh wires
+  pub starts_heal : (sight : ℕ → ℕ → ℕ) → ((a : ℕ) (wire : WireId) (row : WirePlan) → wire_row plan wire ≡ Some row → is_mesh_of service row ≡ true → sight a wire.0 ≡ (network.edges a).bits wire.0)
+      → Heals plan service site network (Seen sight)
+  starts_heal sight same = record {
+    steady = steady_here sight;
+    mesh = λ a. (let mesh = mesh_here a in
+        record { told = mesh.told; on = mesh.on; whole = λ wire row is of_mesh ended. same a wire row is of_mesh ∙ mesh.whole wire row is of_mesh ended; across = mesh.across });
+    spokes = spokes_here sight;
     right = λ core is. all_weaker (PointsToSite plan network service site core)
-        (EntryHeals plan service site (chosen_in service network) (IsWithdrawalPending plan service network) core) (learned_in service network core)
+        (EntryHeals plan service site (chosen_in service network) (ways_of plan service (Seen sight)) core) (learned_in service network core)
         (λ entry points x wire home spoke chosen there. IsRight (right_here core is entry points x wire home spoke chosen there)) (starts.points core);
     table = starts.points;
-    live = λ e. all_weaker (PointsToSite plan network service site e) (IsAtLive plan service e (network.edges e)) (learned_in service network e) (live_entry e) (starts.points e);
   }
 
-pub start_heals : (plan : Plan) (events : List Event) (service : ServiceId) (site : Sites) → IsRun plan events → StartsRight plan (network_after plan events) service site
-    → Heals plan service site (network_after plan events) (network_after plan events)
-start_heals plan events service site run starts =
-    starts_heal plan service site (network_after plan events) run.checked (run_ordered plan events run)
-    (λ a b joined. runs_settle plan events run service (quiet_of plan events service starts.calm) a b joined) (run_mended plan events run)
-    (λ me from to wire row is mated. runs_tell_across plan events run me from to wire row is mated) starts
+  pub starts_live : (e : ℕ) → AllByRecursion (IsAtLive plan service e (network.edges e)) (learned_in service network e)
+  starts_live e = all_weaker (PointsToSite plan network service site e) (IsAtLive plan service e (network.edges e)) (learned_in service network e) (live_entry e) (starts.points e)
+
+-- what a calm state from which addresses point to their sites has for a setting, whatever failure bits are seen
+pub record Begins (plan : Plan) (service : ServiceId) (site : Sites) (network : NetworkState) : Type 0 where
+  pub heals : (sight : ℕ → ℕ → ℕ) → ((a : ℕ) (wire : WireId) (row : WirePlan) → wire_row plan wire ≡ Some row → is_mesh_of service row ≡ true → sight a wire.0 ≡ (network.edges a).bits wire.0)
+      → Heals plan service site network (seen_as sight network)
+  pub live : (e : ℕ) → AllByRecursion (IsAtLive plan service e (network.edges e)) (learned_in service network e)
+
+pub run_tells : (plan : Plan) (events : List Event) → IsRun plan events → HasTellers plan (network_after plan events)
+run_tells plan events run = record {
+  across = λ me from to wire row is mated. runs_tell_across plan events run me from to wire row is mated;
+  taken = λ from to apart. runs_take_mappings plan events run from to apart;
+}
+
+pub start_begins : (plan : Plan) (events : List Event) (service : ServiceId) (site : Sites) → IsRun plan events → StartsRight plan (network_after plan events) service site
+    → Begins plan service site (network_after plan events)
+start_begins plan events service site run starts = record {
+  heals = starts_heal plan service site (network_after plan events) run.checked (run_ordered plan events run) settle (run_mended plan events run) (run_tells plan events run) starts;
+  live = starts_live plan service site (network_after plan events) run.checked (run_ordered plan events run) settle (run_mended plan events run) (run_tells plan events run) starts;
+}
   where
-    quiet_of : (plan : Plan) (events : List Event) (service : ServiceId) → is_calm plan (network_after plan events) service ≡ true → is_quiet plan (network_after plan events) service ≡ true
-    quiet_of plan events service calm = first_holds (is_quiet plan (network_after plan events) service) (is_full plan (network_after plan events) service)
+    quiet_of : is_calm plan (network_after plan events) service ≡ true → is_quiet plan (network_after plan events) service ≡ true
+    quiet_of calm = first_holds (is_quiet plan (network_after plan events) service) (is_full plan (network_after plan events) service)
         (first_holds (is_quiet plan (network_after plan events) service && is_full plan (network_after plan events) service) (has_live_spokes plan (network_after plan events) service) calm)
+
+    settle : (a b : ℕ) → are_joined_by plan service a b ≡ true → AreSettled plan (network_after plan events) a b
+    settle a b joined = runs_settle plan events run service (quiet_of starts.calm) a b joined

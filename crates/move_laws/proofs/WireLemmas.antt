@@ -7,7 +7,6 @@ use Rattle.flight_laws.proofs.PlaceLemmas.{Finds, IsEndOf, IsFound, IsNamed, Nam
 use Rattle.flood_laws.proofs.LinkLemmas.{IsLink, link_at}
 use Rattle.flood_laws.proofs.MeshLemmas.{core_edge, far_core, far_port, mesh_near, near_port}
 use Rattle.flood_laws.proofs.WireEdgeLemmas.{far_of_far, far_of_near, sides_ended}
-use Rattle.move_laws.specs.Moves.{has_short_spokes}
 use Rattle.hvpls_spokes.proofs.WirePortLemmas.{finds_wire_port, found_wire_port, has_wire_port, wire_port_is}
 use Rattle.hvpls_spokes.specs.Port.{is_wire_port, ports_of, wire_port}
 use Rattle.move_laws.specs.Healing.{IsSpokeTo}
@@ -21,15 +20,13 @@ use Rattle.net_base.specs.plan.Paths.{is_first, is_last, joins, last_edge}
 use Rattle.net_base.specs.plan.Places.{is_mesh_class, wire_row}
 use Rattle.net_base.specs.plan.Roles.{are_joined_by, is_core_edge, is_mesh_of, is_spoke_edge, is_spoke_from, is_wire_of, wire_ends_at}
 use Rattle.network_model.specs.Reach.{far_of}
-use Rattle.std.proofs.Common.{Bool, List, Some, [], ap, arith, false, not, position, refl, slice_get, subst, sym, true, ℕ, ⊎_elim, ◌&&◌, ◌==◌, ◌||◌, ◌∙◌, ◌∷◌, ◌≡◌}
-use Rattle.std.proofs.lemmas.Bool.Decides.{nat_tests}
+use Rattle.std.proofs.Common.{Bool, List, Some, [], ap, false, not, position, refl, slice_get, subst, sym, true, ℕ, ⊎_elim, ◌&&◌, ◌==◌, ◌||◌, ◌∙◌, ◌∷◌, ◌≡◌}
 use Rattle.std.proofs.lemmas.Bool.{eq-eqb, eqb-true, and_from, not-true, or_left, or_right}
 use Rattle.std.proofs.lemmas.Map.Keys.{any_passes_from_place}
 use Rattle.std.specs.List.{AllByRecursion}
 use Rattle.net_values.proofs.BoolLemmas.{clash, first_holds, or_later, second_holds}
 use Rattle.net_values.proofs.NumberLemmas.{same_number}
 use Rattle.net_values.proofs.RowLemmas.{row_holds, found_is_any}
-use Rattle.move_laws.proofs.ShortLinkLemmas.{IsShortLink, short_link}
 
 -- ---- spokes and mesh wires
 
@@ -88,50 +85,6 @@ spoke_of plan service edge wire home checked spoke = record {
 
     last : home ≡ link.far.0
     last = eqb-true home link.far.0 (sym (link.last home) ∙ (ap (is_last home) (sym link.path) ∙ spoke.to))
-
--- where spokes have paths of two edges, it joins the two
-pub record IsSpokeLink (plan : Plan) (service : ServiceId) (edge home : ℕ) (row : WirePlan) : Type 0 where
-  pub of : IsSpokeOf plan service edge home row
-  pub path : row.path ≡ record { 0 = edge } ∷ record { 0 = home } ∷ []
-  pub joined : joins edge home row.path ≡ true
-  pub by_service : are_joined_by plan service edge home ≡ true
-
-two_joined : (a b : ℕ) → ((a == a && b == b) || (b == a && a == b)) || false ≡ true
-two_joined a b = grind (arith, nat_tests)
-
-pub spoke_link : (plan : Plan) (service : ServiceId) (edge : ℕ) (wire : WireId) (home : ℕ) → IsChecked plan → has_short_spokes plan service ≡ true
-    → (spoke : IsSpokeTo plan service edge wire home) → IsSpokeLink plan service edge home spoke.row
-spoke_link plan service edge wire home checked short spoke = record {
-  of = of;
-  path = path;
-  joined = joined;
-  by_service = any_passes_from_place (λ (r : WirePlan). is_wire_of service r && joins edge home r.path) plan.wires wire.0 row spoke.is
-      (and_from (is_wire_of service row) (joins edge home row.path) of.ours joined);
-}
-  where
-    row : WirePlan
-    row = spoke.row
-
-    of : IsSpokeOf plan service edge home row
-    of = spoke_of plan service edge wire home checked spoke
-
-    link : IsShortLink plan row
-    link = short_link plan service wire.0 row checked short of.ours of.class spoke.is
-
-    first : edge ≡ link.near.0
-    first = eqb-true edge link.near.0 (ap (is_first edge) (sym link.path) ∙ second_holds (is_wire_of service row && not (is_mesh_class row.class)) (is_first edge row.path) spoke.from)
-
-    last : home ≡ link.far.0
-    last = eqb-true home link.far.0 (ap (is_last home) (sym link.path) ∙ spoke.to)
-
-    same_ids : (a b c d : ℕ) → a ≡ c → b ≡ d → row.path ≡ record { 0 = c } ∷ record { 0 = d } ∷ [] → row.path ≡ record { 0 = a } ∷ record { 0 = b } ∷ []
-    same_ids a b c d one other is = rw (one, other) is
-
-    path : row.path ≡ record { 0 = edge } ∷ record { 0 = home } ∷ []
-    path = same_ids edge home link.near.0 link.far.0 first last link.path
-
-    joined : joins edge home row.path ≡ true
-    joined = rw path (two_joined edge home)
 
 -- neighbours on a mesh wire of the service
 pub record IsMeshLink (plan : Plan) (service : ServiceId) (a b : ℕ) (row : WirePlan) : Type 0 where

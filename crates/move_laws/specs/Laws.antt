@@ -10,14 +10,13 @@ use Rattle.flood_laws.specs.Deliveries.{is_delivery}
 use Rattle.address_laws.specs.Points.{Points}
 use Rattle.address_laws.specs.Sites.{Sites}
 use Rattle.address_laws.specs.Stretch.{StartsRight}
-use Rattle.move_laws.specs.Moves.{has_short_spokes, is_move}
+use Rattle.move_laws.specs.Moves.{is_move}
 
--- Where each spoke of a service has a path of two edges: after one setting at a spoke edge for one of its spokes, and then deliveries
--- alone, each calm state has each learned address point to its site again.
+-- After one setting at a spoke edge for one of its spokes, and then deliveries alone, each calm state has each learned address point to its
+-- site again.
 abbrev pub MovesHeal : Plan → List Event → Type 0
 MovesHeal plan events = (before : List Event) (move : Event) (deliveries after : List Event) (service : ServiceId) (site : Sites)
     → events ≡ before ++ move ∷ (deliveries ++ after)
-    → has_short_spokes plan service ≡ true
     → StartsRight plan (network_after plan before) service site
     → is_move plan service move ≡ true
     → list_all is_delivery deliveries ≡ true

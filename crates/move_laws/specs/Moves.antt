@@ -1,17 +1,11 @@
 -- A spoke edge may move to another one of its spokes.
-use Rattle.std.specs.Prelude.{◌==◌, ◌&&◌, ◌||◌, not, length, Bool, false}
-use Rattle.std.specs.List.{list_all}
+use Rattle.std.specs.Prelude.{Bool, false}
 use Rattle.net_base.specs.declared.plan.Plan.{Plan}
 use Rattle.net_base.specs.declared.plan.places.ServiceId.{ServiceId}
 use Rattle.net_base.specs.declared.trace.event.Event.{Event}
 use Rattle.net_base.specs.declared.trace.event.Event.TheVariants.{Connect, Deliver, Lose, Restart, Tick, Frame, Arrive, Discard, Again, Wire, Circuit, Status, Priority, Ping}
-use Rattle.net_base.specs.plan.Places.{is_mesh_class, wire_row}
-use Rattle.net_base.specs.plan.Roles.{is_wire_of}
+use Rattle.net_base.specs.plan.Places.{wire_row}
 use Rattle.edge_model.specs.Spokes.{is_spoke_row}
-
--- each spoke of the service has a path of two edges
-abbrev pub has_short_spokes : Plan → ServiceId → Bool
-has_short_spokes plan service = list_all (λ row. not (is_wire_of service row && not (is_mesh_class row.class)) || length row.path == 2) plan.wires
 
 -- the priority or the failure bits of a spoke of the service are set at its spoke edge
 abbrev pub is_move : Plan → ServiceId → Event → Bool

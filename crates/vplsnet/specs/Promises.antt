@@ -121,8 +121,7 @@ pub record KeepsPromises (plan : Plan) (events : List Event) : Type 0 where
   pub points : PointsLast plan events
   -- and each frame to a station then reaches its site once, and no other one more than once, within twelve segments
   pub stations : KnownAreReached 12 plan events
-  -- once a spoke edge has moved to another spoke and no octet is on its way any more, they point to the sites again, where each wire
-  -- of the service has a path of two edges
+  -- once a spoke edge has moved to another spoke and no octet is on its way any more, they point to the sites again
   pub moves : MovesHeal plan events
   -- sessions understand each other, and come up where everything was heard
   pub table : Throughout (FollowTable plan) plan events
