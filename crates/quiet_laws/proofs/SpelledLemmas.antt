@@ -1,5 +1,5 @@
 -- Octets that spell a message that an end says spell no message about another wire, nor one that says something else there.
-use Rattle.std.proofs.Common.{◌≡◌, ◌≤◌, ◌<◌, ◌+◌, ◌++◌, ◌∙◌, ◌⊎◌, ℕ, suc, true, false, nat_eq, is_some, List, [], ◌∷◌, Option, Some, None, length, drop, refl, sym, ap, subst, ⊎_elim, arith}
+use Rattle.std.proofs.Common.{◌≡◌, ◌≤◌, ◌<◌, ◌+◌, ◌++◌, ◌∙◌, ℕ, suc, true, false, nat_eq, is_some, List, [], ◌∷◌, Option, Some, None, length, drop, refl, sym, ap, subst, ⊎_elim, arith}
 use Rattle.std.proofs.lemmas.List.{length-append}
 use Rattle.std.proofs.lemmas.Bool.{eq-eqb}
 use Rattle.byteorder.specs.Endian.{big_number}
