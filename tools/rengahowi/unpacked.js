@@ -3,7 +3,8 @@
 async function unpacked(text) {
   text = text.trim();
   if (text.startsWith("{")) return JSON.parse(text);
-  const octets = Uint8Array.from(atob(text), sign => sign.charCodeAt(0));
+  const signs = atob(text), octets = new Uint8Array(signs.length);
+  for (let at = 0; at < signs.length; at++) octets[at] = signs.charCodeAt(at);
   return new Response(new Blob([octets]).stream().pipeThrough(new DecompressionStream("gzip"))).json();
 }
 // A text as a page has it.
