@@ -25,8 +25,8 @@ class Connection:
 
     def __init__(self, active: Any, port: Any) -> None:
         self.active, self.port = active, port
-        self.put = {}
-        self.waiting = {}
+        self.put: dict[str, int] = {}
+        self.waiting: dict[str, Any] = {}
 
     def ports(self, sender: Any) -> tuple[Any, ...]:
         """The source and the destination port of what an edge sends."""
@@ -40,11 +40,14 @@ class Capture:
         self.plan, self.report = plan, report
         self.number = {edge: place for place, edge in enumerate(plan.edges)}
         self.address = {edge: row["address"] for edge, row in plan.edges.items()}
-        self.connections, self.made = {}, 0
-        self.packets, self.blocks = {}, [pcapng.section(), *(pcapng.interface(edge) for edge in plan.edges)]
-        self.time, self.event = 0, None
+        self.connections: dict[Any, Connection] = {}
+        self.made = 0
+        self.packets: dict[Any, Any] = {}
+        self.blocks = [pcapng.section(), *(pcapng.interface(edge) for edge in plan.edges)]
+        self.time = 0
+        self.event: Event | None = None
         self.segments, self.frames, self.hellos = 0, 0, 0
-        self.kinds = {}
+        self.kinds: dict[int, set[str]] = {}
 
     def make(self) -> bytes:
         """The octets of the whole file."""
@@ -149,7 +152,7 @@ class Capture:
     def decode_as(self) -> list[Any]:
         """What tells Wireshark of each label whether a control word follows it, which no packet says; labels in ranges. A label
         that stands for both at two edges, or for a ping without a control word, is left to Wireshark."""
-        ranges = []
+        ranges: list[list[Any]] = []
         for label, kinds in sorted(self.kinds.items()):
             kind = min(kinds)
             if "" in kinds or len(kinds) > 1:

@@ -197,7 +197,7 @@ def plan_fault(kind: str, table: str, number: int, key: str, text: Any) -> Any:
 
 def repeated(document: Any, tables: Any, among: Any) -> Iterator[Any]:
     """Names that stood before in these tables."""
-    seen = {}
+    seen: dict[str, tuple[str, int]] = {}
     for table in tables:
         for number, row in enumerate(document.get(table, [])):
             if row["name"] in seen:
@@ -209,7 +209,7 @@ def repeated(document: Any, tables: Any, among: Any) -> Iterator[Any]:
 
 def repeated_addresses(document: Any) -> Iterator[Any]:
     """Addresses that stood before."""
-    addresses = {}
+    addresses: dict[str, str] = {}
     for number, row in enumerate(document.get("edge", [])):
         if row["address"] in addresses:
             text = f"{row['address']} is the address of edge {addresses[row['address']]!r} already"
@@ -228,7 +228,8 @@ def path_faults(wires: Iterable[tuple[int, dict[str, Any]]]) -> Iterator[Any]:
 
 def pair_faults(wires: Iterable[tuple[int, dict[str, Any]]]) -> Iterator[Any]:
     """Two wires over one segment with one PW ID, and two mesh wires of a service between the same edges."""
-    numbers, meshes = {}, {}
+    numbers: dict[Any, Any] = {}
+    meshes: dict[Any, Any] = {}
     for number, row in wires:
         segments = [(frozenset(pair), row["pw_id"]) for pair in zip(row["path"], row["path"][1:])]
         stood = [numbers[segment] for segment in segments if segment in numbers]
@@ -247,7 +248,8 @@ def pair_faults(wires: Iterable[tuple[int, dict[str, Any]]]) -> Iterator[Any]:
 
 def clashes(wires: Iterable[tuple[int, dict[str, Any]]]) -> Iterator[Any]:
     """Spokes that start at an edge which ends a spoke or a mesh wire of the service."""
-    starts, ends = {}, {}
+    starts: dict[Any, Any] = {}
+    ends: dict[Any, Any] = {}
     for number, row in wires:
         service, (first, last) = row["service"], (row["path"][0], row["path"][-1])
         own_starts = [first] if row["class"] == "spoke" else []
@@ -268,7 +270,7 @@ def clashes(wires: Iterable[tuple[int, dict[str, Any]]]) -> Iterator[Any]:
 
 def port_faults(document: Any) -> Iterator[Any]:
     """Services with too many ports at one edge."""
-    counts = {}
+    counts: dict[tuple[str, str], int] = {}
     for row in document.get("circuit", []):
         counts[row["service"], row["edge"]] = counts.get((row["service"], row["edge"]), 0) + 1
     for row in document.get("wire", []):

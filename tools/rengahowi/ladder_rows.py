@@ -48,11 +48,12 @@ class Rows:
         self.network, self.events, self.front = network or Network(plan), events, front
         self.lanes = lanes(plan)
         for lane in self.lanes if network else ():
-            states = network.sessions if lane["kind"] == "session" else network.ends
+            states = self.network.sessions if lane["kind"] == "session" else self.network.ends
             lane["states"] = [[0, states[lane["edge"], lane["name"]]]]
         self.lane_of = {(lane["kind"], lane["edge"], lane["name"]): lane for lane in self.lanes}
         self.column = {(column["kind"], column["name"]): place for place, column in enumerate(columns(plan))}
-        self.rows, self.frame_of = [], {}
+        self.rows: list[dict[str, Any]] = []
+        self.frame_of: dict[Any, Any] = {}
 
     def make(self) -> list[dict[str, Any]]:
         """All rows. The names of the messages are added at the end, by one call of `decode` for all of them."""

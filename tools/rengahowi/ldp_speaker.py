@@ -51,7 +51,7 @@ def messages_of(octets: bytes) -> Any:
     return found
 
 
-def key_of(kind: str, octets: bytes) -> tuple[Any, ...]:
+def key_of(kind: int, octets: bytes) -> tuple[Any, ...]:
     """By what a message is known again: its type, and of one with a PWid FEC element the PW ID (RFC 8077 section 6.1)."""
     place = 8
     while place + 4 <= len(octets):
@@ -66,7 +66,7 @@ def key_of(kind: str, octets: bytes) -> tuple[Any, ...]:
 
 def exchange_of(report: Report, edge: str, peer: str) -> Any:
     """What two edges said to each other in the first connection of a report, in its order: who, and the octets of the PDU."""
-    found = []
+    found: list[tuple[str, bytes]] = []
     for event in report.events:
         if found and (event.kind == "connect" and {edge, peer} == set(event.words) and not event.is_idle()):
             break
@@ -83,11 +83,16 @@ class Speaker:
         self.own, self.other, self.seconds = own["address"], other["address"], seconds
         self.address = ipaddress.IPv4Address(self.own).packed
         self.every = max(1, own["keepalive"] / 3)
-        self.hellos, self.listener, self.session = None, None, None
-        self.next_hello = self.next_keep_alive = 0
+        # The sockets, once they are there.
+        self.hellos: Any = None
+        self.listener: Any = None
+        self.session: Any = None
+        self.next_hello = self.next_keep_alive = 0.0
         self.number, self.said_addresses = 0x7000_0000, False
-        self.buffer, self.waiting = b"", []
-        self.difference, self.besides = None, 0
+        self.buffer = b""
+        self.waiting: list[tuple[bytes, int, bytes]] = []
+        self.difference: str | None = None
+        self.besides = 0
 
     def meet(self) -> None:
         """Sends Hellos until the session's connection stands."""

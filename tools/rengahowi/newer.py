@@ -70,7 +70,7 @@ class Newer:
 
     def __init__(self, text: str) -> None:
         self.document, self.places = tomllib.loads(text), Places(text)
-        self.changes = []
+        self.changes: list[Any] = []
 
     def text(self) -> Any:
         """The text of version 2; a fault where the rows stand in another way than a key a line."""

@@ -8,6 +8,8 @@ TYPE_CHECKING = False
 if TYPE_CHECKING:
     from typing import Any
 
+    Path = tuple[Any, ...]
+
 BLANK = re.compile(r"(?:[ \t\r\n]|#[^\n]*)*")
 SPACE = re.compile(r"[ \t]*")
 BARE = re.compile(r"[^,\]}#\n]*")
@@ -19,9 +21,12 @@ class Places:
     """The place of each value, by its path: a key or an element's number at each step, such as ('edge', 0, 'name')."""
 
     def __init__(self, text: str) -> None:
-        self.text, self.at, self.found = text.removeprefix("\ufeff"), 0, {}
-        self.key_places, self.ends = {}, {}
-        base, counts = (), {}
+        self.text, self.at = text.removeprefix("\ufeff"), 0
+        self.found: dict[Path, int] = {}
+        self.key_places: dict[Path, int] = {}
+        self.ends: dict[Path, int] = {}
+        base: Path = ()
+        counts: dict[Path, int] = {}
         while self.skip(BLANK) < len(self.text):
             if self.text[self.at] == "[":
                 base = self.header(counts)
@@ -30,8 +35,12 @@ class Places:
 
     def skip(self, pattern: Any) -> Any:
         """Goes on over what a pattern takes, and answers where it is then."""
-        self.at = pattern.match(self.text, self.at).end()
+        self.at = self.taken(pattern).end()
         return self.at
+
+    def taken(self, pattern: Any) -> Any:
+        """What a pattern takes here, which the text has as TOML has it."""
+        return pattern.match(self.text, self.at)
 
     def header(self, counts: Any) -> Any:
         """The path of a table's header. A part of it that is an array of tables means the last row there is."""
@@ -40,7 +49,7 @@ class Places:
         self.at += 1 + many
         keys = self.keys()
         self.at += 1 + many
-        path = ()
+        path: Path = ()
         for place, key in enumerate(keys):
             path += (key,)
             self.stands(path, start)
@@ -60,7 +69,7 @@ class Places:
         """The keys of a header or a statement, parted by dots."""
         found = []
         while True:
-            match = KEY.match(self.text, self.at)
+            match = self.taken(KEY)
             self.at = match.end()
             found.append(match[1].strip("\"'"))
             if self.text[self.at] != ".":
@@ -69,7 +78,7 @@ class Places:
 
     def statement(self, base: tuple[Any, ...]) -> None:
         """A key with its value. Of a key with dots, each part has the place of the whole."""
-        start = BLANK.match(self.text, self.at).end()
+        start = self.taken(BLANK).end()
         path = base
         for key in self.keys():
             path += (key,)

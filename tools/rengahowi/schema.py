@@ -91,7 +91,7 @@ def property_of(table: Any, key: Key) -> Any:
     """The schema of a key: its value, what it says, and its default."""
     if key.kind == "table":
         return {"allOf": [value_of(key)], "description": about(table, key.name)}
-    found = {**value_of(key), "description": f"{about(table, key.name)}: {allowed(key)}"}
+    found: dict[str, Any] = {**value_of(key), "description": f"{about(table, key.name)}: {allowed(key)}"}
     return found if key.default is None else {**found, "default": key.default}
 
 
