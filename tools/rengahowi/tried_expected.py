@@ -6,7 +6,7 @@ import json
 import xml.etree.ElementTree
 from xml.etree.ElementTree import Element
 
-from .trying import TOP, compare, tool
+from .trying import TOP, compare, run, tool
 
 TYPE_CHECKING = False
 if TYPE_CHECKING:
@@ -130,6 +130,27 @@ def defined(file: pathlib.Path) -> Iterator[Any]:
     yield compare("what-if --cases --jobs-for", (len(lines), f"--cases {file} --time {file}" in lines[0]), (3, True))
 
 
+# What a reader of files of JUnit makes of one: each test with its name, its class, and the kinds of what became of it.
+READER = """
+import json, sys, junitparser
+suites = list(junitparser.JUnitXml.fromfile(sys.argv[1]))
+counts = [(suite.tests, suite.failures, suite.errors, suite.skipped) for suite in suites]
+tests = [(test.name, test.classname, [type(one).__name__ for one in test.result]) for suite in suites for test in suite]
+print(json.dumps([counts, tests]))
+"""
+
+
+def read_by_junitparser(path: pathlib.Path, tests: list[tuple[str, str, list[str]]]) -> Iterator[Any]:
+    """The same file as Debian's junitparser reads it."""
+    done = run(["/usr/bin/python3", "-c", READER, path], path.parent, text=True)
+    if "No module named 'junitparser'" in done.stderr:
+        print("junitparser is missing (Debian: python3-junitparser), and the file of JUnit is not read by it")
+        return
+    failures = sum(len(found) for _, _, found in tests)
+    right = [[[len(tests), failures, 0, 0]], [list(row) for row in tests]]
+    yield compare("what-if --junit, read by junitparser", json.loads(done.stdout or "null"), right)
+
+
 def read_by_pipelines(folder: pathlib.Path, file: pathlib.Path) -> Iterator[Any]:
     """A file of JUnit, and annotations."""
     file.write_text(TIMES + OWN.replace('"duct 7"', '"duct <7>, 100%: é"'), encoding="utf-8")
@@ -143,6 +164,7 @@ def read_by_pipelines(folder: pathlib.Path, file: pathlib.Path) -> Iterator[Any]
     yield compare("what-if --junit", (status, counts, failed), (3, {"tests": "6", "failures": "2", "errors": "0"}, right))
     messages = [failure.get("message") for test in suite for failure in test if isinstance(failure, Element)]
     yield compare("what-if --junit, messages", messages, [line.removeprefix("duct 7: ").rpartition(" (")[0] for line in OWN_SAID])
+    yield from read_by_junitparser(path, [(*row[:2], ["Failure"] * row[2]) for row in right])
     lines = fault.splitlines()[1:]
     right_line = f"::error file={file},line=18,title=quick%2C duct <7>%2C 100%25%3A é::cx loses ca for 180.01 s (1 more site too), and within = \"3s\""
     yield compare("what-if --github", (len(lines), lines[0]), (2, right_line))
