@@ -5,7 +5,7 @@ from __future__ import annotations
 import subprocess
 
 from . import program
-from .command import Fault, text_of
+from .command import Fault, lines_of
 from .report import read_report
 
 TYPE_CHECKING = False
@@ -32,7 +32,7 @@ def audited(scenario: str, report: str) -> tuple[int, str] | None:
 def why(plan: Plan, path: str, refused: tuple[int, str], rows: list[dict[str, Any]]) -> list[str]:
     """Lines that say why; `rows` are the frames of a summary, where the report could be read."""
     number, rule = refused
-    lines = text_of(path).split("\n")
+    lines = lines_of(path)
     text = lines[number - 1] if number <= len(lines) else ""
     words = text.split(" ")
     head = f"Refused: line {number}, {rule}: {text[:120]}{'..' if len(text) > 120 else ''}"

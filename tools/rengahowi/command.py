@@ -133,12 +133,17 @@ def leave(status: Any) -> NoReturn:
 
 
 def text_of(path: str | os.PathLike[str]) -> str:
-    """The text of a file, which has to be UTF-8."""
+    """The text of a file, which has to be UTF-8, with the ends of lines as they stand."""
     try:
-        with open(path, encoding="utf-8-sig") as file:
+        with open(path, encoding="utf-8-sig", newline="") as file:
             return file.read()
     except UnicodeDecodeError as fault:
         raise Fault(f"{path} is no UTF-8, at octet {fault.start}") from None
+
+
+def lines_of(path: str | os.PathLike[str]) -> list[str]:
+    """The lines of a file, which may end by CR LF; the last one is empty where a line ends the file."""
+    return text_of(path).replace("\r\n", "\n").split("\n")
 
 
 def external(program: str, package: str) -> str:

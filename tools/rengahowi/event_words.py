@@ -5,6 +5,7 @@ from __future__ import annotations
 import re
 
 from .checking import Finding
+from .event_kinds import SHAPES
 from .keys import MOST_PLAYS
 
 TYPE_CHECKING = False
@@ -13,27 +14,6 @@ if TYPE_CHECKING:
     from typing import Any
 
 NUMBER = re.compile(r"0|[1-9][0-9]*")
-LARGEST = 2**64 - 1
-# Each event's words behind its first one: a kind of name, a range of numbers, octets, a switch or a file.
-SHAPES: dict[str, list[Any]] = {
-    "connect": ["edge", "edge"],
-    "deliver": ["edge", "edge", (1, 65535)],
-    "lose": ["edge", "edge"],
-    "restart": ["edge"],
-    "tick": [(1, 10000)],
-    "frame": ["circuit", "octets"],
-    "arrive": [(1, LARGEST)],
-    "drop": [(1, LARGEST)],
-    "again": [(1, LARGEST)],
-    "wire": ["edge", "wire", "switch"],
-    "circuit": ["circuit", "switch"],
-    "status": ["edge", "wire", (0, 31)],
-    "priority": ["edge", "wire", (0, 255)],
-    "ping": ["edge", "wire"],
-    "settle": [(1, 10000)],
-    "flow": [(1, 10000)],
-    "play": ["circuit", "file"],
-}
 
 
 class EventWords:

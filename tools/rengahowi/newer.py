@@ -17,7 +17,7 @@ if TYPE_CHECKING:
     from collections.abc import Iterator
     from typing import Any
 
-REST = re.compile(r"[ \t]*(#[^\n]*)?(?:\n|\Z)")
+REST = re.compile(r"[ \t]*(#[^\r\n]*)?(?:\r?\n|\Z)")
 
 
 def group_names(document: dict[str, Any]) -> Any:
@@ -71,6 +71,7 @@ class Newer:
     def __init__(self, text: str) -> None:
         self.document, self.places = tomllib.loads(text), Places(text)
         self.changes: list[Any] = []
+        self.end = "\r\n" if "\r\n" in text else "\n"
 
     def text(self) -> Any:
         """The text of version 2; a fault where the rows stand in another way than a key a line."""
@@ -106,7 +107,7 @@ class Newer:
         lines = said + [f"{end} = {value(offer)}" for end, offer in ends_of(row, names).items()]
         for start, stop, _, _ in spans[:-1]:
             self.changes.append((start, stop, ""))
-        self.changes.append((*spans[-1][:2], "".join(f"{line}\n" for line in lines)))
+        self.changes.append((*spans[-1][:2], "".join(f"{line}{self.end}" for line in lines)))
 
     def line_of(self, path: tuple[Any, ...]) -> tuple[Any, ...]:
         """Where the line of a statement begins and ends, and its comment."""
@@ -121,5 +122,6 @@ class Newer:
         at = self.places.found["wire", 0]
         while (line := self.places.text[self.places.text.rfind("\n", 0, at - 1) + 1 : at]).startswith("#"):
             at -= len(line)
-        rows = "".join(f"[[group]]\nname = {value(name)}\nnumber = {number}\n\n" for number, name in names.items())
+        lines = [line for number, name in names.items() for line in ("[[group]]", f"name = {value(name)}", f"number = {number}", "")]
+        rows = "".join(f"{line}{self.end}" for line in lines)
         self.changes.append((at, at, rows))

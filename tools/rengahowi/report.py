@@ -6,7 +6,8 @@ read one by one, and the first one that is wrong is told."""
 
 from __future__ import annotations
 
-from .command import Fault, text_of
+from .command import Fault, lines_of
+from .event_kinds import told_events
 
 TYPE_CHECKING = False
 if TYPE_CHECKING:
@@ -36,22 +37,7 @@ ENTRIES = {
 # Those that lines of a script tell, which no event belongs to.
 NOTES = {"hello", "adjacency", "barred", "idle"}
 # The words of each kind of event behind its first one.
-EVENTS = {
-    "connect": ("edge", "edge"),
-    "deliver": ("edge", "edge", "number"),
-    "lose": ("edge", "edge"),
-    "restart": ("edge",),
-    "tick": (),
-    "frame": ("circuit", "octets"),
-    "arrive": ("number",),
-    "drop": ("number",),
-    "again": ("number",),
-    "wire": ("edge", "wire", "word"),
-    "circuit": ("circuit", "word"),
-    "status": ("edge", "wire", "number"),
-    "priority": ("edge", "wire", "number"),
-    "ping": ("edge", "wire"),
-}
+EVENTS = told_events()
 # The same of a text of `switchover`.
 SWITCH_ENTRIES = {"idle": (), "said": ("edge", "edge", "octets"), "uses": ("edge", "wire", "word")}
 SWITCH_EVENTS = {
@@ -220,7 +206,7 @@ def written_anew(told: Entry | Event) -> list[str]:
 
 def read_report(path: str | os.PathLike[str], plan: Plan, heads: tuple = (REPORT,)) -> Report:
     """The report of a file, of a run over this plan; or a text of `switchover`, for who takes both."""
-    lines = text_of(path).split("\n")
+    lines = lines_of(path)
     if lines[0] == SWITCHOVER and SWITCHOVER not in heads:
         raise Fault(f"{path}, line 1: a text of `switchover` has no frames and no sessions: tools/ladder and tools/to-pcap read it, and no others")
     if lines[0] not in heads:

@@ -5,7 +5,7 @@ from __future__ import annotations
 
 import re
 
-from .event_words import SHAPES
+from .event_kinds import SHAPES
 from .keys import MOST_ROWS, NEWEST, OFFER, TABLES, allowed
 
 TYPE_CHECKING = False
