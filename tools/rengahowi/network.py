@@ -278,14 +278,14 @@ class Network:
 
     def looks_calm(self, service: str) -> bool:
         """The same, looked at anew."""
+        return not self.unsettled(service) and self.is_full(service)
+
+    def is_full(self, service: str) -> bool:
+        """Whether each two core edges of a service have a mesh wire that carries frames, and each spoke edge exactly one spoke that does."""
         shape, carrying = self.shape.of[service], self.up_wires(service)
         meshed = {frozenset(wire.ends()) for wire in carrying if wire.kind == "mesh"}
         spokes = [wire.path[0] for wire in carrying if wire.kind == "spoke"]
-        return (
-            not self.unsettled(service)
-            and all(pair in meshed for pair in shape.mesh)
-            and all(spokes.count(edge) == 1 for edge in shape.spoke_edges)
-        )
+        return all(pair in meshed for pair in shape.mesh) and all(spokes.count(edge) == 1 for edge in shape.spoke_edges)
 
     def up_wires(self, service: str) -> list[Wire]:
         """The wires of a service that carry frames where it is quiet, by what both terminal edges last told of each, as `audit` sees it:

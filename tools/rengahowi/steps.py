@@ -119,6 +119,12 @@ class Follower:
         # What a bridge hears by the event that is followed, unless that drops it: service, edge, address, port.
         self.hears: tuple[str, str, str, str] | None = None
         self.touched: set[tuple[str, str]] = set()  # ways of which octets were put or taken
+        # The services of each two neighbours, and of each service the neighbours that are not settled.
+        self.services: dict[frozenset[str], list[str]] = {}
+        for service in plan.services:
+            for pair in plan.pairs(service):
+                self.services.setdefault(frozenset(pair), []).append(service)
+        self.unsettled: dict[str, set[frozenset[str]]] = {service: set() for service in plan.services}
         self.put_all()
 
     def behind(self) -> Follower:
@@ -128,6 +134,7 @@ class Follower:
         made.learned, made.labels = self.learned.copy(), self.labels.copy(made.network, made.steps.put)
         made.old = {tick: rows.copy() for tick, rows in self.old.items()}
         made.sources, made.hears, made.touched = self.sources.copy(), None, set()
+        made.services, made.unsettled = self.services, {service: pairs.copy() for service, pairs in self.unsettled.items()}
         return made
 
     def follow(self, rows: list[list[str]], keeps: Callable[[int], bool] = lambda place: True) -> Steps:
@@ -270,6 +277,7 @@ class Follower:
             if (a, b) in self.network.pipes:
                 octets = self.network.pipes[a, b].octets()
                 self.steps.put(f"octets {a} {b}", str(octets) if octets else "")
+                self.settle(a, b)
         if self.touched or self.network.told:
             self.put_calm()
         self.touched.clear()
@@ -279,8 +287,17 @@ class Follower:
 
     def put_calm(self) -> None:
         """Which services are calm."""
-        for service in self.plan.services:
-            self.steps.put(f"calm {service}", "calm" if self.network.is_calm(service) else "not calm")
+        for service, pairs in self.unsettled.items():
+            self.steps.put(f"calm {service}", "calm" if not pairs and self.network.is_full(service) else "not calm")
+
+    def settle(self, a: str, b: str) -> None:
+        """Two neighbours may be settled now, or no longer."""
+        pair, is_settled = frozenset((a, b)), self.network.is_settled(a, b)
+        for service in self.services[pair]:
+            if is_settled:
+                self.unsettled[service].discard(pair)
+            else:
+                self.unsettled[service].add(pair)
 
     def learn(self, service: str, edge: str, address: str, port: str) -> None:
         """A bridge hears an address."""

@@ -85,9 +85,14 @@ def boxes_in(picture: Any) -> tuple[Any, ...]:
 
 
 def rows_in(page: Any) -> Any:
-    """The rows of a ladder; the page has to be XML."""
+    """The rows of a ladder."""
+    return ladder_in(page)["rows"]
+
+
+def ladder_in(page: Any) -> Any:
+    """What a ladder has in it; the page has to be XML."""
     scripts = xml.etree.ElementTree.fromstring(page).iter(f"{HTML}script")
-    return unpacked(next(script.text or "" for script in scripts if script.get("id") == "data"))["rows"]
+    return unpacked(next(script.text or "" for script in scripts if script.get("id") == "data"))
 
 
 def unpacked(text: str) -> Any:
