@@ -8,6 +8,7 @@ import pathlib
 import re
 import shutil
 
+from .tried_labs import CUSTOMERS
 from .trying import PATIENCE, TOP, compare, run, tool
 
 TYPE_CHECKING = False
@@ -16,19 +17,7 @@ if TYPE_CHECKING:
     from typing import Any
 
 DAEMONS = pathlib.Path("/usr/lib/frr")
-PLAN = """version = 2
-events = []
-[[edge]]
-name = "a"
-address = "10.0.0.1"
-[[edge]]
-name = "b"
-address = "10.0.0.2"
-[[service]]
-name = "red"
-[[service]]
-name = "blue"
-[[circuit]]
+PLAN = CUSTOMERS + """[[circuit]]
 name = "lyon"
 edge = "a"
 service = "red"

@@ -20,7 +20,8 @@ ROUND = TOP / "tools" / "rengahowi" / "tried_lab_round.py"
 # So many runs from this seed on, of each kind one. The same was tried once for 200.
 SEED, COUNT = 1000, 8
 DEBIAN = "/usr/bin/python3"
-PLAN = """version = 2
+# Two edges, and the services of two customers.
+CUSTOMERS = """version = 2
 events = []
 [[edge]]
 name = "a"
@@ -32,7 +33,8 @@ address = "10.0.0.2"
 name = "red"
 [[service]]
 name = "blue"
-[[service]]
+"""
+PLAN = CUSTOMERS + """[[service]]
 name = "far"
 [[wire]]
 name = "w"
