@@ -49,7 +49,7 @@ class EventWords:
             return len(shape) + 2, f"{words[0]} has {len(shape)} words behind it, and no more"
         return None
 
-    def is_right(self, kind: str, word: Any) -> bool:
+    def is_right(self, kind: Any, word: str) -> bool:
         """Whether a word may stand where one of this kind is wanted."""
         if isinstance(kind, tuple):
             return bool(NUMBER.fullmatch(word)) and kind[0] <= int(word) <= kind[1]
@@ -59,7 +59,7 @@ class EventWords:
             return word in ("on", "off")
         return word in self.known[kind] if kind in self.known else bool(word)
 
-    def right(self, kind: str) -> Any:
+    def right(self, kind: Any) -> str:
         """What has to stand there, in words."""
         if isinstance(kind, tuple):
             return f"a number from {kind[0]} to {kind[1]}, without leading zeros"
