@@ -303,6 +303,10 @@ known_told : has_address (((reached heard).edges 0).learned 0) station ≡ true
 unfolding evaluated
 known_told = refl
 
+carried_told : carries two_ways (reached heard) 1 stitched_spoke ≡ false
+unfolding evaluated
+carried_told = refl
+
 carries_told : carries two_ways (reached moments) 1 stitched_spoke ≡ true
 unfolding evaluated
 carries_told = refl
@@ -323,7 +327,10 @@ healed = record {
   wire = record { 0 = 1 };
   row = stitched_spoke;
   row_is = refl;
+  mover = 2;
+  spoke = refl;
   stitched = refl;
+  carries_before = ap (λ (n : NetworkState). carries two_ways n 1 stitched_spoke) is_heard ∙ carried_told;
   carries_now = ap (λ (n : NetworkState). carries two_ways n 1 stitched_spoke) is_healed ∙ carries_told;
   edge = 0;
   station = station;

@@ -8,6 +8,7 @@ use Rattle.net_base.specs.declared.plan.places.WireId.{WireId}
 use Rattle.net_base.specs.declared.plan.wire_plan.WirePlan.{WirePlan}
 use Rattle.net_base.specs.declared.trace.event.Event.{Event}
 use Rattle.net_base.specs.plan.Places.{wire_row}
+use Rattle.net_base.specs.plan.Roles.{is_spoke_from}
 use Rattle.mac_table.specs.Addresses.{has_address}
 use Rattle.network_model.specs.Calm.{carries, is_calm}
 use Rattle.flight_laws.specs.Laws.{IsRun, network_after}
@@ -17,7 +18,8 @@ use Rattle.address_laws.specs.Sites.{Sites}
 use Rattle.address_laws.specs.Stretch.{StartsRight}
 use Rattle.move_laws.specs.Moves.{is_move}
 
--- a run, a move and deliveries, behind which a spoke over a switching point carries, and what was known at an edge is forgotten
+-- a run, a move and deliveries, behind which a spoke over a switching point carries, as it did not before, and what was known at an edge is
+-- forgotten
 pub record HealedOverSwitchingPoint : Type 0 where
   pub plan : Plan
   pub service : ServiceId
@@ -33,7 +35,10 @@ pub record HealedOverSwitchingPoint : Type 0 where
   pub wire : WireId
   pub row : WirePlan
   pub row_is : wire_row plan wire ≡ Some row
+  pub mover : ℕ
+  pub spoke : is_spoke_from service mover row ≡ true
   pub stitched : length row.path ≡ 3
+  pub carries_before : carries plan (network_after plan before) wire.0 row ≡ false
   pub carries_now : carries plan (network_after plan (before ++ move ∷ deliveries)) wire.0 row ≡ true
   pub edge : ℕ
   pub station : Mac
