@@ -44,6 +44,7 @@ QUOTED = re.compile(r"`([^`\n]+)`")
 # A definition or a call: words joined by `_`, or a name of two capitals and small letters between.
 NAME = re.compile(r"(?<![\w/.-])(?:[a-z][a-z0-9]*(?:_[a-z0-9]+)+|[A-Z][a-z]+(?:[A-Z][a-z]*)+)(?![\w/.-])")
 WORD = re.compile(r"[A-Za-z_][A-Za-z0-9_]*")
+LAW = re.compile(r"^pub fn (\w+)", re.MULTILINE)
 
 
 def pages() -> list[pathlib.Path]:
@@ -105,6 +106,11 @@ def known_names(paths: Iterable[pathlib.Path]) -> set[str]:
     return known
 
 
+def laws() -> set[str]:
+    """The laws of all crates: the functions that do nothing, by their names."""
+    return {name for path in TOP.glob("crates/*/src/laws.rt") for name in LAW.findall(path.read_text(encoding="utf-8"))}
+
+
 def named(_folder: pathlib.Path, _gone: set[str]) -> Iterator[Any]:
     """What pages and docstrings name is there: sections of RFCs, files, headings, commands, definitions."""
     told = {path: path.read_text(encoding="utf-8") for path in [*pages(), *sources()]}
@@ -119,6 +125,7 @@ def named(_folder: pathlib.Path, _gone: set[str]) -> Iterator[Any]:
         yield compare(f"{at[page]}: commands", list(commands(text)), [])
     text = told[TOP / "docs" / "THEOREMS.md"]
     yield compare("definitions and calls of THEOREMS", sorted(set(names(text, known))), [])
+    yield compare("laws that THEOREMS lacks", sorted(laws() - set(WORD.findall(text))), [])
     yield compare("crates of ARCHITECTURE: tools/make-crate-table", with_table(told[PAGE]) == told[PAGE], True)
     bad = "RFC 5036\n/// sections 3.5.7 and 3.99, [here](THEOREMS.md#no-heading), `bin/vplsnet play`, `docs/NOTHING.md`, `is_never_there`"
     seen = [*sections(bad), *links(TOP / "docs" / "TOUR.md", bad), *files(bad), *commands(bad), *names(bad, known)]
