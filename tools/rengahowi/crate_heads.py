@@ -16,6 +16,9 @@ FROM = "<!-- made by tools/make-crate-table: its words stand at the head of each
 TO = "<!-- end of the crates -->\n"
 # What the head of each crate of laws says of its files is said once, above the table.
 RUNS_NOTHING = re.compile(r" ?This crate runs nothing: .*?as (?:its|a) contract\.", re.DOTALL)
+# The sections of standards stand at the head itself, and so does what comes behind its first sentence.
+STANDARDS = re.compile(r" \(RFC [^)]*\)")
+FIRST = re.compile(r".*?\.(?= [A-Z`]|$)", re.DOTALL)
 
 
 def crates() -> Iterator[tuple[str, str]]:
@@ -35,13 +38,15 @@ def main_file(crate: str) -> pathlib.Path:
 
 
 def head(crate: str) -> str:
-    """The first paragraph of the words at the head of a crate."""
+    """The first sentence of the words at the head of a crate, without the sections of standards."""
     words = []
     for line in main_file(crate).read_text(encoding="utf-8").splitlines():
         if not line.startswith("//! "):
             break
         words.append(line[4:])
-    return RUNS_NOTHING.sub("", " ".join(words))
+    paragraph = STANDARDS.sub("", RUNS_NOTHING.sub("", " ".join(words)))
+    first = FIRST.match(paragraph)
+    return first[0] if first else paragraph
 
 
 def table() -> str:
