@@ -27,6 +27,7 @@ pub record IsBridged (old new : Work) : Type 0 where
   pub said : (place : ℕ) → said_to place new.effects ≡ said_to place old.effects
   pub closed : (place : ℕ) → closes place new.effects ≡ closes place old.effects
   pub well : TellWell old.effects → TellWell new.effects
+  pub effects : GivesOnly is_of_bridging old.effects new.effects
   pub idle : new.idle ≡ old.idle
 
 -- it is nothing else for any place, and is as fine as before
@@ -73,6 +74,7 @@ given_are old new keeps peering gives idle = record {
   closed = λ place. ap (closes place) gives.given
       ∙ (closes-append place old.effects more ∙ (ap (λ b. closes place old.effects || b) (quiet.shuts place) ∙ or_false (closes place old.effects)));
   well = λ well. rw gives.given (well_more old.effects more well quiet.well);
+  effects = gives;
   idle = idle;
 }
   where

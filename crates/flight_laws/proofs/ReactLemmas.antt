@@ -228,7 +228,7 @@ later_stands : (own other : Peers) (kept : Peering) → IsStanding own other kep
 later_stands own other kept is = record { peers = is.peers; between = is.between; least = is.least; most = is.most; numbered = is.numbered; passive = is.passive }
 
 -- the Notification of an end that leaves
-expiry_said : (ends : Peers) (id : ℕ) → id < 2 ^ 32 → IsSaidAcross ends (Notification id expiry None None)
+pub expiry_said : (ends : Peers) (id : ℕ) → id < 2 ^ 32 → IsSaidAcross ends (Notification id expiry None None)
 expiry_said ends id small = (((small, omega arith, omega arith, tt, tt), refl, (status_are expiry, tt)), inl (refl, refl, refl))
 
 -- nothing was heard for the hold time

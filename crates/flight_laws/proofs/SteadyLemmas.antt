@@ -43,7 +43,7 @@ use Rattle.session_core.specs.Laws.{IsAddress}
 use Rattle.spoke_redundancy.specs.Telling.{is_not_chosen}
 use Rattle.edge_model.specs.Across.{held_from, held_of, mate_of}
 use Rattle.edge_model.specs.declared.effect.Effect.{Effect}
-use Rattle.edge_model.specs.declared.effect.Effect.TheVariants.{Wire}
+use Rattle.edge_model.specs.declared.effect.Effect.TheVariants.{Said, Wire}
 use Rattle.edge_model.specs.declared.end_place.EndPlace.{EndPlace}
 use Rattle.edge_model.specs.Mend.{advertising, is_up_with, passed_from, passed_wish, status_held, status_offered, telling_status, tells_new_status, tells_status, terminal_wish, wish, wish_by, wish_of, withdrawing, withdraws}
 use Rattle.edge_model.specs.Role.{role_at, status_to_tell}
@@ -62,8 +62,14 @@ use Rattle.flight_laws.proofs.PlaceLemmas.{IsEndOf}
 use Rattle.flight_laws.proofs.SoundLemmas.{sound_giving, sound_same, sound_with_end}
 use Rattle.edge_model.specs.Labels.{label_to_give}
 
+-- an effect that is no octets for a neighbour
+abbrev pub IsUnsaid : Effect → Type 0
+IsUnsaid (Said peer octets) = ⊥
+IsUnsaid e = Unit {0}
+
 -- an effect that says nothing to a neighbour, and nothing of sessions
 pub record IsSilent (e : Effect) : Type 0 where
+  pub unsaid : IsUnsaid e
   pub says : (place : ℕ) → said_to place (e ∷ []) ≡ []
   pub closed : (place : ℕ) → closes place (e ∷ []) ≡ false
   pub well : TellsWell e
@@ -332,7 +338,7 @@ module _ (plan : Plan) (me : EdgeId) (checked : IsChecked plan) (types : HasType
   steady_tells_down : (place : EndPlace) (down : Option Down) (work : Work) → I work → I (gives (Wire place.wire down) (changes (with_told_down place.wire down) work))
   steady_tells_down place down work i =
       let rest = down_rest (point_limit plan me.0) place down work.edge in
-      steady.gives (Wire place.wire down) (changes (with_told_down place.wire down) work) (record { says = λ k. refl; closed = λ k. refl; well = tt })
+      steady.gives (Wire place.wire down) (changes (with_told_down place.wire down) work) (record { unsaid = tt; says = λ k. refl; closed = λ k. refl; well = tt })
       (steady.changes (with_told_down place.wire down) work rest.0 rest.1 (rest.2 (steady.sound work i)) i)
 
   pub steady_rows : KeptByRows plan me I

@@ -134,7 +134,7 @@ module _ (plan : Plan) (service : ServiceId) (me : EdgeId) (checked : IsChecked 
   down_rest place down edge = (refl, refl, λ sound. sound_same edge _ refl refl refl refl refl sound, λ mesh. mesh_same plan service me.0 edge _ refl refl refl mesh)
 
   silent_wire : (place : EndPlace) (down : Option Down) → IsSilent (Wire place.wire down)
-  silent_wire place down = record { says = λ k. refl; closed = λ k. refl; well = tt }
+  silent_wire place down = record { unsaid = tt; says = λ k. refl; closed = λ k. refl; well = tt }
 
   module _ (network : NetworkState) (peer : ℕ) (base : Work) where
     abbrev At : Work → Type 0
