@@ -3,6 +3,7 @@
 from __future__ import annotations
 
 import re
+from collections import Counter
 
 from .trying import TOP
 
@@ -49,14 +50,23 @@ def head(crate: str) -> str:
     return first[0] if first else paragraph
 
 
+def subject(sentence: str) -> str:
+    """What stands before the colon of a sentence, where that are words enough."""
+    before = sentence.partition(": ")[0]
+    return sentence if before == sentence or len(before.split()) < 4 else before + "."
+
+
 def table() -> str:
-    """The rows of all crates, a heading of each group before them."""
+    """The rows of all crates, a heading of each group before them. Two crates of one subject have their sentences whole."""
     rows, last = ["| Crate | What it is |", "|---|---|"], None
+    heads = {crate: head(crate) for _, crate in crates()}
+    times = Counter(subject(words) for words in heads.values())
     for group, crate in crates():
         if group != last:
             rows.append(f"| | **{group}** |")
             last = group
-        rows.append(f"| `{crate}` | {head(crate)} |")
+        short = subject(heads[crate])
+        rows.append(f"| `{crate}` | {short if times[short] == 1 else heads[crate]} |")
     return "\n".join(rows) + "\n"
 
 
