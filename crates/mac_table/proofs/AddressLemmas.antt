@@ -86,7 +86,7 @@ next_below a n = grind (arith, nat_tests)
 one_more : (xs : List MacEntry) (e : MacEntry) (capacity : ℕ) → nat_lt (length xs) capacity ≡ true → length (xs ++ e ∷ []) ≤ capacity
 one_more xs e capacity room = omega (arith, length-append xs (e ∷ []), ltb-true (length xs) capacity room)
 
-length-filter_le : (p : MacEntry → Bool) (xs : List MacEntry) → length (filter p xs) ≤ length xs
+pub length-filter_le : (p : MacEntry → Bool) (xs : List MacEntry) → length (filter p xs) ≤ length xs
 length-filter_le p [] = omega arith
 length-filter_le p (x ∷ xs) =
     let rest : length (filter p xs) ≤ length xs = length-filter_le p xs in

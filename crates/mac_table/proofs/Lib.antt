@@ -2,4 +2,4 @@ pub mod AddressLemmas
 pub mod AgeLemmas
 pub mod IndexLemmas
 pub mod RemovalLemmas
-pub mod TickLemmas
+pub mod StoredLemmas

@@ -2,14 +2,18 @@
 use Rattle.std.proofs.Common.{◌≡◌, ◌<◌, ◌≤◌, ◌+◌, ℕ, Bool, true, false, List, [], ◌∷◌, length, take, get_or, suc, zero, cond, refl, ap, subst, arith}
 use Rattle.std.specs.Prelude.{filter, All}
 use Rattle.std.specs.List.{remove}
-use Rattle.std.proofs.lemmas.List.Elements.{All-push}
+use Rattle.std.proofs.lemmas.List.Elements.{All-head, All-push, All-tail}
 use Rattle.std.proofs.lemmas.Bool.{or_parts}
 use Rattle.net_values.specs.declared.mac.Mac.{Mac}
 use Rattle.net_values.proofs.NumberLemmas.{suc_is_add}
 use Rattle.mac_table.specs.declared.mac_entry.MacEntry.{MacEntry}
 use Rattle.mac_table.specs.Addresses.{AreDistinctAddresses, IsHeld, has_address, is_of}
 use Rattle.mac_table.proofs.IndexLemmas.{take_next}
-use Rattle.mac_table.proofs.TickLemmas.{filter_all}
+
+-- where all stay, that is all
+pub filter_all : (p : MacEntry → Bool) (es : List MacEntry) → All (λ e. p e ≡ true) es → filter p es ≡ es
+filter_all p [] all = refl
+filter_all p (e ∷ es) all = rw (All-head (λ (x : MacEntry). p x ≡ true) e es all) (ap (λ (l : List MacEntry). e ∷ l) (filter_all p es (All-tail (λ (x : MacEntry). p x ≡ true) e es all)))
 
 -- what goes makes no difference to what stays
 pub filter_removed : (p : MacEntry → Bool) (xs : List MacEntry) (i : ℕ) (d : MacEntry) → i < length xs → p (get_or xs i d) ≡ false → filter p (remove xs i) ≡ filter p xs

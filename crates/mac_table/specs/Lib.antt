@@ -2,4 +2,4 @@ pub mod Addresses
 pub mod Index
 pub mod Laws
 pub mod Removal
-pub mod Ticks
+pub mod Stored

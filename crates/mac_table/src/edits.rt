@@ -1,16 +1,16 @@
-//! Changes of a table.
-ghost use Rattle.std.specs.{Prelude.{◌≡◌, ◌<◌, ◌≤◌, ◌++◌, ◌∷◌, ℕ, [], filter, length, vec_capacity, vec_len, IsTrue}, List.{remove}};
-ghost use Rattle.mac_table.specs.{Addresses.{AreDistinctAddresses, NoneAfter, learned, learning_of}, Removal.{keeps_entry}};
+//! Changes of what a table stores.
+ghost use Rattle.std.specs.{Prelude.{◌≡◌, ◌<◌, ◌≤◌, ◌++◌, ◌∷◌, [], filter, length, vec_capacity, vec_len, IsTrue}, List.{remove}};
+ghost use Rattle.mac_table.specs.{Addresses.{AreDistinctAddresses, learned, learning_of}, Removal.{keeps_entry}};
 
 use crate::index::{add, put_at, refill};
 use crate::removal::Removal;
 use crate::search::place_of;
-use crate::ticks::{forget, forget_leaving, note, shift};
-use crate::{Learned, MacEntry, MacTable};
+use crate::stored::Stored;
+use crate::{Learned, MacEntry};
 
 // Puts the entry at the end of a list that has room for it; the room of the list stays what it is.
 #[tactic(auto, using(std::proofs::lemmas::List::Edits::insert_end))]
-fn append(entries: &mut Vec<MacEntry>, entry: MacEntry)
+pub(crate) fn append(entries: &mut Vec<MacEntry>, entry: MacEntry)
     requires { vec_len entries.old < vec_capacity entries.old }
     ensures items { entries.new.items ≡ entries.old.items ++ entry ∷ [] }
     ensures room { vec_capacity entries.new ≡ vec_capacity entries.old }
@@ -20,32 +20,24 @@ fn append(entries: &mut Vec<MacEntry>, entry: MacEntry)
     entries.insert(end, entry).unwrap();
 }
 
-impl MacTable {
+impl Stored {
     // Puts the entry in place of the one of its address, or at the end where there is room.
     #[tactic(auto, using(crate::proofs::AddressLemmas::held_at, crate::proofs::AddressLemmas::absent_past, crate::proofs::AddressLemmas::written_at))]
     pub(crate) fn put(&mut self, entry: MacEntry) -> Learned
-        requires { NoneAfter entry.tick self.old.entries }
         ensures learning { result ≡ learning_of self.old entry.address }
         ensures entries { self.new ≡ record self.old { entries = learned self.old entry } }
         ensures within { length self.old.entries ≤ self.old.capacity }
+        ensures stood { AreDistinctAddresses self.old.entries }
         ensures distinct { AreDistinctAddresses self.new.entries }
     {
         let place = place_of(self.entries.as_slice(), &self.index, entry.address);
         if place < self.entries.len() {
-            shift(
-                &mut self.ticks,
-                self.entries.as_slice(),
-                place,
-                entry,
-                self.capacity as usize,
-            );
             self.entries[place] = entry;
             put_at(&mut self.index, place, entry);
             return Learned::Kept;
         }
         if self.entries.len() < self.capacity as usize {
             add(&mut self.index, self.entries.as_slice(), entry);
-            note(&mut self.ticks, self.entries.as_slice(), entry);
             append(&mut self.entries, entry);
             return Learned::New;
         }
@@ -53,15 +45,10 @@ impl MacTable {
     }
 
     // Takes the entry at the place out. The others stay in order.
-    fn take_at(&mut self, place: usize)
+    pub(crate) fn take_at(&mut self, place: usize)
         requires { place < length self.old.entries }
         ensures { self.new ≡ record self.old { entries = remove self.old.entries place } }
     {
-        forget(
-            &mut self.ticks,
-            self.entries[place].tick,
-            self.entries.capacity(),
-        );
         self.index.shift_remove_index(place);
         self.entries.remove(place);
     }
@@ -95,7 +82,6 @@ impl MacTable {
         ensures distinct { AreDistinctAddresses self.new.entries }
         ensures entries { self.new ≡ record self.old { entries = filter (keeps_entry removal.entry) self.old.entries } }
     {
-        forget_leaving(&mut self.ticks, self.entries.as_slice(), removal);
         self.entries.retain(|entry| removal.keeps(entry));
         refill(&mut self.index, self.entries.as_slice());
     }
@@ -103,7 +89,6 @@ impl MacTable {
     // Takes all entries out that go. The others stay in order.
     pub(crate) fn take_out(&mut self, removal: Removal<'_>)
         ensures entries { self.new ≡ record self.old { entries = filter (keeps_entry removal.entry) self.old.entries } }
-        ensures ticks { (now : ℕ) → NoneAfter now self.old.entries → NoneAfter now self.new.entries }
         ensures distinct { AreDistinctAddresses self.new.entries }
     {
         if !self.take_few(removal) {

@@ -4,6 +4,7 @@
 #![tactic(auto)]
 
 mod edits;
+mod held;
 mod index;
 mod laws;
 mod learned;
@@ -11,7 +12,8 @@ mod mac_entry;
 mod mac_table;
 mod removal;
 mod search;
-mod ticks;
+mod stored;
+mod way;
 
 pub use laws::lasts_its_age;
 pub use learned::Learned;

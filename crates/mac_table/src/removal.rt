@@ -6,11 +6,11 @@ use crate::MacEntry;
 use crate::search::is_in;
 use net_values::Mac;
 
-// What takes addresses out of a table: age, a port that no longer has addresses, or a MAC withdraw.
+// What takes addresses out of a table: that they have aged out, a port that no longer has addresses, or a MAC withdraw.
 #[derive(Clone, Copy)]
 pub(crate) enum Removal<'a> {
-    // At the tick `now`, the addresses from which no frame came for `limit` ticks or more.
-    Age { now: u64, limit: u32 },
+    // The addresses from which no frame came since this tick.
+    Before { since: u64 },
     // The addresses that are at the port.
     Port { port: u16 },
     // What a MAC withdraw that came by the port `from` names.
@@ -23,7 +23,7 @@ impl Removal<'_> {
         ensures { result ≡ keeps_entry self.entry entry.now }
     {
         match self {
-            Removal::Age { now, limit } => now.saturating_sub(entry.tick) < limit as u64,
+            Removal::Before { since } => since <= entry.tick,
             Removal::Port { port } => entry.port != port,
             Removal::Withdraw { from, addresses } if addresses.is_empty() => entry.port == from,
             Removal::Withdraw { from, addresses } => {

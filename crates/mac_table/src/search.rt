@@ -1,6 +1,6 @@
 //! Where an address stands among entries.
 ghost use Rattle.std.specs.Prelude.{◌≡◌};
-ghost use Rattle.mac_table.specs.{Addresses.{is_of, entry_place, port_of, is_listed}, Index.{IsAddressIndex}};
+ghost use Rattle.mac_table.specs.{Addresses.{is_of, entry_place, is_listed}, Index.{IsAddressIndex}};
 
 use crate::MacEntry;
 use indexmap::IndexMap;
@@ -13,18 +13,6 @@ fn is_entry_of(address: Mac, entry: &MacEntry) -> bool
     entry.address == address
 }
 
-// The port of the address, by a walk.
-fn walk_to_port(entries: &[MacEntry], address: Mac) -> Option<u16>
-    ensures { result ≡ port_of entries.now address }
-{
-    for entry in entries {
-        if is_entry_of(address, entry) {
-            return Some(entry.port);
-        }
-    }
-    None
-}
-
 // The place of the address, or the number of entries where it is not held, by a walk.
 fn walk_to_place(entries: &[MacEntry], address: Mac) -> usize
     ensures place { result ≡ entry_place entries.now address }
@@ -35,25 +23,6 @@ fn walk_to_place(entries: &[MacEntry], address: Mac) -> usize
         }
     }
     entries.len()
-}
-
-// The port of the address. The map is asked while it has what the list has.
-#[tactic(auto, using(crate::proofs::IndexLemmas::index_whole))]
-pub(crate) fn find_port(
-    entries: &[MacEntry],
-    index: &IndexMap<Mac, (u16, u64)>,
-    address: Mac,
-) -> Option<u16>
-    requires { IsAddressIndex index.now.entries entries.now }
-    ensures { result ≡ port_of entries.now address }
-{
-    if index.len() == entries.len() {
-        return match index.get(&address).copied() {
-            Some(value) => Some(value.0),
-            None => None,
-        };
-    }
-    walk_to_port(entries, address)
 }
 
 // The place of the address, or the number of entries where it is not held.

@@ -6,9 +6,10 @@ use provider_edge::Edge;
 use psn_net::Network;
 use vsi_bridge::Bridge;
 
-// Whether the map of a bridge's table has each of its addresses.
-fn has_addresses(bridge: &Bridge) -> bool {
-    bridge.table().map().len() == bridge.table().len()
+// Whether the map of a bridge's table has each of its addresses, after so many ticks. It may have none once an address can have aged out.
+fn has_addresses(bridge: &Bridge, ticks: u64) -> bool {
+    let count = bridge.table().map().len();
+    count == bridge.table().len() || (count == 0 && ticks >= u64::from(bridge.age()))
 }
 
 // Whether the label is owned.
@@ -42,7 +43,7 @@ fn has_labels(labels: &LabelSpace, first: u32) -> bool {
 fn has_all(edge: &Edge, services: u16) -> bool {
     for service in 0..services {
         if let Some(bridge) = edge.bridge(ServiceId(service))
-            && !has_addresses(bridge)
+            && !has_addresses(bridge, edge.ticks())
         {
             return false;
         }

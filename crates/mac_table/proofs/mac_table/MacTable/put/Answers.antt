@@ -1,41 +1,36 @@
--- The map and the ticks have what the list has, after the write in all.
-use Rattle.std.proofs.Common.{rules, ◌≡◌, ◌<◌, ◌≤◌, ◌++◌, ◌∙◌, nat_lt, true, false, List, [], ◌∷◌, length, ap, subst, sym, refl, arith}
-use Rattle.std.specs.Prelude.{slice_set}
-use Rattle.std.proofs.lemmas.Bool.{lt-ltb}
-use Rattle.mac_table.specs.declared.mac_entry.MacEntry.{MacEntry}
-use Rattle.mac_table.specs.Addresses.{entry_place, has_address, learned}
-use Rattle.mac_table.specs.Ticks.{IsTickIndex}
-use Rattle.mac_table.proofs.AddressLemmas.{absent_past, held_learned, held_written}
-use Rattle.mac_table.proofs.IndexLemmas.{index_written}
+-- What is stored is ready for the address, which comes to what is held.
+use Rattle.std.proofs.Common.{◌≡◌, ◌≤◌, ◌∙◌, ℕ, subst, sym}
+use Rattle.std.proofs.Math.Nat.{min-le_left, min-le_right}
+use Rattle.mac_table.specs.{Addresses.{AddressTable}, Stored.{held_table, is_held}}
+use Rattle.mac_table.proofs.{AddressLemmas.{distinct-filter}, StoredLemmas.{held_learned, held_same, held_within, oldest_learned}}
 use Rattle.mac_table.proofs.mac_table.MacTable.put.Goals as goal
 
 pub invariant_of-self : goal.invariant_of-self
 invariant_of-self c =
-    let xs = c.self.inside.entries.items in
-    let at : c.place_of-place.result ≡ entry_place xs c.args.entry.address = c.place_of-place.ensures ∙ ap (λ (l : List MacEntry). entry_place l c.args.entry.address) c.as_slice.ensures.value in
-    let within : c.place_of-place.result < length xs = search rules in (
-      held_written _ _ _ _ _ c.args.entry c.place_of-place.result c.self.invariant.0 at within refl refl,
-      index_written _ _ _ _ c.place_of-place.result c.args.entry c.self.invariant.1 at within c.put_at.ensures refl,
-      subst (λ (l : List MacEntry). IsTickIndex c.shift.new.ticks.entries (slice_set l c.place_of-place.result c.args.entry)) c.as_slice-then-place-len.ensures.value c.shift.ensures,
+    let oldest = c.make_way-self-inside.result in
+    let tick = c.args.entry.tick in (
+      oldest_learned oldest c.min-self-inside.result c.make_way-self-inside.new.stored c.put.new.self c.args.entry c.make_way-self-inside.ensures.aged c.put.ensures.entries
+          (subst (λ (n : ℕ). n ≤ oldest) (sym c.min-self-inside.ensures) (min-le_left oldest tick))
+          (subst (λ (n : ℕ). n ≤ tick) (sym c.min-self-inside.ensures) (min-le_right oldest tick)),
+      c.self.invariant.1,
     )
 
-pub invariant_of-self-then-len-self : goal.invariant_of-self-then-len-self
-invariant_of-self-then-len-self c =
-    let xs = c.self.inside.entries.items in
-    let at : c.place_of-place.result ≡ entry_place xs c.args.entry.address = c.place_of-place.ensures ∙ ap (λ (l : List MacEntry). entry_place l c.args.entry.address) c.as_slice.ensures.value in
-    let past : length xs ≤ c.place_of-place.result = search rules in
-    let absent : has_address xs c.args.entry.address ≡ false = absent_past xs c.args.entry.address c.place_of-place.result at past in
-    let under : length xs < c.self.inside.capacity = search rules in
-    let fits : nat_lt (length xs) c.self.inside.capacity ≡ true = lt-ltb _ _ under in
-    let grown : learned (record { entries = xs; capacity = c.self.inside.capacity }) c.args.entry ≡ xs ++ c.args.entry ∷ [] = rw (absent, fits) refl in
-    let pushed : c.append.new.entries.items ≡ xs ++ c.args.entry ∷ [] = search rules in (
-      held_learned _ _ _ _ _ c.args.entry c.self.invariant.0 (pushed ∙ sym grown) c.append.ensures.room,
-      search rules,
-      search rules,
-    )
+pub returns-clause-entries : goal.returns-clause-entries
+returns-clause-entries c =
+    let stored : AddressTable = c.make_way-self-inside.new.stored in
+    let same : held_table c.begin_at-self-inside.result stored ≡ c.args.self.now =
+    held_same c.self.inside.since c.begin_at-self-inside.result c.self.inside.stored stored c.args.self.now (c.make_way-self-inside.ensures.held ∙ c.begin_at-self-inside.ensures.held)
+    (c.make_way-self-inside.ensures.capacity ∙ c.begin_at-self-inside.ensures.capacity) c.self.view_is in
+    held_learned c.begin_at-self-inside.result stored c.put.new.self c.args.self.now c.args.entry c.put.ensures.entries c.put.ensures.stood c.begin_at-self-inside.ensures.before
+    c.make_way-self-inside.ensures.ready same
 
-pub returns-then-place-len-clause-distinct : goal.returns-then-place-len-clause-distinct
-returns-then-place-len-clause-distinct c = let held = invariant_of-self c in held.0.distinct
+pub returns-clause-within : goal.returns-clause-within
+returns-clause-within c =
+    let stored : AddressTable = c.make_way-self-inside.new.stored in
+    let same : held_table c.begin_at-self-inside.result stored ≡ c.args.self.now =
+    held_same c.self.inside.since c.begin_at-self-inside.result c.self.inside.stored stored c.args.self.now (c.make_way-self-inside.ensures.held ∙ c.begin_at-self-inside.ensures.held)
+    (c.make_way-self-inside.ensures.capacity ∙ c.begin_at-self-inside.ensures.capacity) c.self.view_is in
+    held_within c.begin_at-self-inside.result stored c.args.self.now c.put.ensures.within same
 
-pub returns-then-len-self-clause-distinct : goal.returns-then-len-self-clause-distinct
-returns-then-len-self-clause-distinct c = let held = invariant_of-self-then-len-self c in held.0.distinct
+pub returns-clause-distinct : goal.returns-clause-distinct
+returns-clause-distinct c = distinct-filter (is_held c.begin_at-self-inside.result) c.put.new.self.entries c.put.ensures.distinct

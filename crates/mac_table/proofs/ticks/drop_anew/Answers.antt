@@ -1,7 +1,0 @@
--- What `retain` keeps is the filter.
-use Rattle.std.proofs.Common.{rules}
-use Rattle.indexmap.proofs.CallerLemmas.{filter-RetainsPairs}
-use Rattle.mac_table.proofs.ticks.drop_anew.Goals as goal
-
-pub returns : goal.returns
-returns c = filter-RetainsPairs _ _ _ (λ k v b w g call. search rules) _ _ c.retain.ensures.filtered
