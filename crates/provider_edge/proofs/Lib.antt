@@ -24,6 +24,7 @@ pub mod PacketLemmas
 pub mod PingLemmas
 pub mod ProperLemmas
 pub mod RestartLemmas
+pub mod RoleLemmas
 pub mod RowLemmas
 pub mod SettledLemmas
 pub mod SlotLemmas

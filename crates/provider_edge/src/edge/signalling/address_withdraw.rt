@@ -7,7 +7,7 @@ ghost use Rattle.edge_model.specs.{Clear.{clears_by, hears_mac_withdraw, passes_
 ghost use Rattle.provider_edge.specs.{Taking.{copied_by}, AtWork.{Works, WorksBy}, Lists.{Keeps, seen}};
 
 use crate::Edge;
-use hvpls_spokes::{Port, PortName, role};
+use hvpls_spokes::{Port, PortName, Role};
 use mac_withdraw::pass_to;
 use net_base::{EdgeId, Link, List, Mac, NoMemory, ServiceId, WireId};
 use peer_dialogue::AtWork;
@@ -100,9 +100,7 @@ impl Edge {
         ensures goes { Works L.calls self.old work.old self.new work.new }
         ensures step { OnOk result (WorksBy L.calls self.old work.old self.new work.new (λ told. passes_on self.old.plan told addresses.now service from (role_of self.old.plan service self.old.me))) }
     {
-        let Some(role) = role(&self.plan, service, self.me) else {
-            return Ok(());
-        };
+        let role = self.role_at(service, from);
         let Some(ports) = self.ports(service) else {
             return Ok(());
         };
@@ -113,6 +111,20 @@ impl Edge {
             }
         }
         Ok(())
+    }
+
+    // What the edge is to a service of which a wire ends at it, as its spokes by services tell (RFC 4762 section 10.1): no wire of the
+    // plan is looked at.
+    fn role_at(&self, service: ServiceId, port: u16) -> Role
+        requires service { service.0 < length self.now.plan.services }
+        requires wire { is_wire_at (ports_of self.now.plan service self.now.me) port ≡ true }
+        ensures { role_of self.now.plan service self.now.me ≡ Some result }
+    {
+        if self.spokes.slots(service.0 as usize).is_empty() {
+            Role::Core
+        } else {
+            Role::SpokeEdge
+        }
     }
 
     // The port of a service with a number.

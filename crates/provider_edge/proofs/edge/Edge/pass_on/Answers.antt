@@ -1,6 +1,5 @@
 -- One more port is told where the addresses pass to it, and is passed by where they do not; at the end all are, over the same plan.
-use Rattle.std.proofs.Common.{◌<◌, ◌≤◌, ◌∙◌, length, ap, sym, arith}
-use Rattle.net_base.specs.declared.plan.Plan.{Plan}
+use Rattle.std.proofs.Common.{◌<◌, ◌≤◌, ◌∙◌, Some, length, ap, refl, sym, arith}
 use Rattle.hvpls_spokes.specs.Port.{ports_of}
 use Rattle.hvpls_spokes.specs.PortSet.{holds_port}
 use Rattle.hvpls_spokes.specs.Role.{role_of}
@@ -11,20 +10,17 @@ use Rattle.provider_edge.proofs.BridgeLemmas.{copied_else, copied_if}
 use Rattle.provider_edge.proofs.ClearLemmas.{passed_to, where_kept}
 use Rattle.provider_edge.proofs.CopyLemmas.{copied_next, copies_end}
 use Rattle.provider_edge.specs.AtWork.{at_work}
-use Rattle.provider_edge.specs.Lists.{EdgeLists}
 use Rattle.provider_edge.proofs.edge.Edge.pass_on.Goals.{then-contains+in_ok-tell_at, else-contains}
 use Rattle.provider_edge.proofs.edge.Edge.pass_on.Goals as goal
 
 pub returns-clause-step : goal.returns-clause-step
 returns-clause-step g c = λ told agrees.
     let past : length (ports_of c.args.self.now.plan c.args.service c.args.self.now.me) ≤ c.loop-port.port =
-    omega (arith, c.len-port-end.ensures.len, ap length c.in-Some-ports.ensures.some, c.loop-port-test.false) in
-    passed_to c.args.self.now told c.args.addresses.now c.args.service c.args.from c.in-Some.role c.role.result
-    (role_of c.args.self.now.plan c.args.service c.args.self.now.me) c.in-Some-ports.ports.now (holds_port c.pass_to-passed.result)
+    omega (arith, c.len-port-end.ensures.len, ap length c.in-Some.ensures.some, c.loop-port-test.false) in
+    passed_to c.args.self.now told c.args.addresses.now c.args.service c.args.from c.role_at-role.result (Some c.role_at-role.result)
+    (role_of c.args.self.now.plan c.args.service c.args.self.now.me) c.in-Some.ports.now (holds_port c.pass_to-passed.result)
     (g.L.Link.calls c.args.work.now.link.now) c.args.work.now.effects.now.list _
-    (c.role.ensures.role
-    ∙ (ap (λ (p : Plan). role_of p c.args.service c.self.inside.me) c.deref.ensures ∙ ap (λ (n : EdgeLists). role_of n.plan c.args.service n.me) c.self.view_is))
-    c.in-Some.is c.in-Some-ports.ensures.some c.pass_to-passed.ensures
+    (sym c.role_at-role.ensures) refl c.in-Some.ensures.some c.pass_to-passed.ensures
     (sym (copies_end (holds_port c.pass_to-passed.result) (tells_at c.args.self.now.plan told c.args.addresses.now) c.loop-port.port c.loop-port.port
     (ports_of c.args.self.now.plan c.args.service c.args.self.now.me) _ past) ∙ c.loop-port.invariant.step told agrees)
 
@@ -35,7 +31,7 @@ loop-port-preserved g c =
         goes = works_both g.L.Link.calls _ _ _ _ _ _ c.loop-port.invariant.goes w.in_ok-tell_at.ensures.goes;
         step = λ told agrees.
             let within : c.loop-port.port < length (ports_of c.args.self.now.plan c.args.service c.args.self.now.me) =
-            omega (arith, c.len-port-end.ensures.len, ap length c.in-Some-ports.ensures.some, c.loop-port-test.true) in
+            omega (arith, c.len-port-end.ensures.len, ap length c.in-Some.ensures.some, c.loop-port-test.true) in
             copied_next (holds_port c.pass_to-passed.result) (tells_at c.args.self.now.plan told c.args.addresses.now) c.loop-port.port
             (ports_of c.args.self.now.plan c.args.service c.args.self.now.me) (at_work g.L.Link.calls c.loop-port.self c.loop-port.work)
             (at_work g.L.Link.calls w.tell_at.new.self w.tell_at.new.work) _ within
@@ -49,7 +45,7 @@ loop-port-preserved g c =
         goes = c.loop-port.invariant.goes;
         step = λ told agrees.
             let within : c.loop-port.port < length (ports_of c.args.self.now.plan c.args.service c.args.self.now.me) =
-            omega (arith, c.len-port-end.ensures.len, ap length c.in-Some-ports.ensures.some, c.loop-port-test.true) in
+            omega (arith, c.len-port-end.ensures.len, ap length c.in-Some.ensures.some, c.loop-port-test.true) in
             copied_next (holds_port c.pass_to-passed.result) (tells_at c.args.self.now.plan told c.args.addresses.now) c.loop-port.port
             (ports_of c.args.self.now.plan c.args.service c.args.self.now.me) (at_work g.L.Link.calls c.loop-port.self c.loop-port.work)
             (at_work g.L.Link.calls c.loop-port.self c.loop-port.work) _ within
