@@ -22,6 +22,7 @@ from .frames import follow
 from .many import all_done
 from .plan import read_plan
 from .report import read_report
+from .rows import Part, table
 from .summing import event_from, sum_up
 from .trying import HTML, PROGRAM, TOP, compare, driver, run, tool
 
@@ -59,37 +60,23 @@ WHYS: dict[tuple[str, str], Any] = {
 }
 
 
-def what_ifs(folder: pathlib.Path, gone: set[str]) -> Iterator[Any]:
-    """Cases counted by hand, and as `summary` counts them; orders, another design, pages, lines, and an interrupt."""
-    yield from by_hand()
-    yield from as_summed("frames-cross", "3")
-    yield from as_summed(*MOVES)
-    yield from ordered(folder)
-    yield from compared(folder)
-    yield from collected(folder)
-    yield from paged(folder)
-    yield from side_by_side(folder / "page.html")
-    yield from refused(folder)
-    yield from interrupted(folder)
-
-
 def tried(name: str, begin: str, *words: Any) -> Any:
     """What `--json` tells of an example."""
     return json.loads(tool("what-if", EXAMPLES / f"{name}.toml", "--from", begin, "--json", *words)[1])
 
 
-def by_hand() -> Iterator[Any]:
-    """Counts by hand, for three small plans."""
-    for name, begin, case, lost, never in BY_HAND:
-        found = tried(name, begin, "--case", case)
-        (row,) = found["cases"]
-        seen = [(pairs_in(one), one["to"]["stage"], one["rounds"]) for one in row["lost"]]
-        right = [(Counter(frozenset((a, b)) for a in left for b in others), *end) for left, others, *end in lost]
-        yield compare(f"what-if {name}, {case}", seen, right)
-        yield compare(f"what-if {name}, {case}, never", (row["never"].get("failed", {}), row["twice"], row["calm"]), (never, {}, True))
-        parts = [(part["sites"], part["reached"]) for one in row["settled"] for part in one["apart"]]
-        yield compare(f"what-if {name}, {case}, once settled", (parts, row["as_settled"]), (SETTLED_BY_HAND[name], True))
-        yield compare(f"what-if {name}, before", found["before"], {"never": {}, "twice": {}, "back": {}})
+def by_hand(_folder: pathlib.Path, entry: Any) -> Iterator[Any]:
+    """Counts by hand, for a small plan."""
+    name, begin, case, lost, never = entry
+    found = tried(name, begin, "--case", case)
+    (row,) = found["cases"]
+    seen = [(pairs_in(one), one["to"]["stage"], one["rounds"]) for one in row["lost"]]
+    right = [(Counter(frozenset((a, b)) for a in left for b in others), *end) for left, others, *end in lost]
+    yield compare(f"what-if {name}, {case}", seen, right)
+    yield compare(f"what-if {name}, {case}, never", (row["never"].get("failed", {}), row["twice"], row["calm"]), (never, {}, True))
+    parts = [(part["sites"], part["reached"]) for one in row["settled"] for part in one["apart"]]
+    yield compare(f"what-if {name}, {case}, once settled", (parts, row["as_settled"]), (SETTLED_BY_HAND[name], True))
+    yield compare(f"what-if {name}, before", found["before"], {"never": {}, "twice": {}, "back": {}})
 
 
 def pairs_in(row: dict[str, Any]) -> Any:
@@ -231,7 +218,6 @@ def refused(folder: pathlib.Path) -> Iterator[Any]:
 
 def interrupted(folder: pathlib.Path) -> Iterator[Any]:
     """An interrupt leaves what is done: in the set-up, between cases, and while what was found is written."""
-    yield from broken_off()
     path, pipe, rows = EXAMPLES / "hierarchy.toml", folder / "scenario", folder / "rows"
     os.mkfifo(pipe)
     with Begun(subprocess.DEVNULL, pipe) as begun:
@@ -334,3 +320,21 @@ def broken_off() -> Iterator[Any]:
         yield compare("pieces, a fault", (said, multiprocessing.active_children()), (right, []))
     yield compare("pieces, whole", all_done(range(40, 49), done, 3, "pieces"), (list(range(40, 49)), True))
     yield compare("no pieces", all_done([], done, 3, "pieces"), ([], True))
+
+
+what_ifs = Part(
+    "Cases counted by hand, and as `summary` counts them; orders, another design, pages, lines, and an interrupt.",
+    {
+        **table(BY_HAND, lambda entry: entry[0], by_hand),
+        "summed-frames-cross": lambda _folder: as_summed("frames-cross", "3"),
+        "summed-spoke-moves": lambda _folder: as_summed(*MOVES),
+        "orders": ordered,
+        "against": compared,
+        "collected": collected,
+        "page": paged,
+        "page-against": lambda folder: side_by_side(folder / "page.html"),
+        "refused": refused,
+        "broken-off": lambda _folder: broken_off(),
+        "interrupted": interrupted,
+    },
+)

@@ -12,6 +12,7 @@ from .configs import joining, vendors, writers
 from .plan import Plan, tables_of
 from .program import path as program_path
 from .random_plans import random_plan, same_but_for_names
+from .rows import Part, table
 from .trying import TOP, compare, run, tool
 
 TYPE_CHECKING = False
@@ -32,22 +33,23 @@ REFUSED = [
 ]
 
 
-def from_configs(folder: pathlib.Path, _gone: set[str]) -> Iterator[bool]:
-    """The plan of each example of configurations is the one that stands beside it, and so is what is told; some are refused."""
-    for place in sorted(path.parent for path in CONFIGS.glob("*/*/" + PLAN)):
-        files = sorted(path.name for path in place.iterdir() if path.name not in (PLAN, TOLD))
-        name = str(place.relative_to(CONFIGS))
-        status, said, fault = tool("from-config", *WORDS.get(name, []), *files, folder=place)
-        yield compare(f"from-config {name}", (status, said), (0, (place / PLAN).read_text(encoding="utf-8")))
-        yield compare(f"from-config {name}, told", fault, (place / TOLD).read_text(encoding="utf-8"))
-    yield from as_json()
-    path = folder / "one.conf"
-    for text, line, words in REFUSED:
-        path.write_text(text, encoding="utf-8")
-        status, said, fault = tool("from-config", path)
-        last = fault.splitlines()[-1]
-        seen = (status, said, last.startswith(f"from-config: {path}, line {line}: "), words in last)
-        yield compare(f"from-config {text!r}", seen, (1, "", True, True))
+def example(_folder: pathlib.Path, place: pathlib.Path) -> Iterator[bool]:
+    """The plan of an example of configurations is the one that stands beside it, and so is what is told."""
+    files = sorted(path.name for path in place.iterdir() if path.name not in (PLAN, TOLD))
+    name = str(place.relative_to(CONFIGS))
+    status, said, fault = tool("from-config", *WORDS.get(name, []), *files, folder=place)
+    yield compare(f"from-config {name}", (status, said), (0, (place / PLAN).read_text(encoding="utf-8")))
+    yield compare(f"from-config {name}, told", fault, (place / TOLD).read_text(encoding="utf-8"))
+
+
+def refused(folder: pathlib.Path, entry: tuple[str, int, str]) -> Iterator[bool]:
+    """A text that is no configuration to work with."""
+    (text, line, words), path = entry, folder / "one.conf"
+    path.write_text(text, encoding="utf-8")
+    status, said, fault = tool("from-config", path)
+    last = fault.splitlines()[-1]
+    seen = (status, said, last.startswith(f"from-config: {path}, line {line}: "), words in last)
+    yield compare(f"from-config {text!r}", seen, (1, "", True, True))
 
 
 def as_json() -> Iterator[bool]:
@@ -84,13 +86,12 @@ def there_and_back(vendor: str, seed: int, count: int, like: str | None = None) 
     return said, wrong
 
 
-def to_configs(_folder: pathlib.Path, _gone: set[str]) -> Iterator[bool]:
+def back(_folder: pathlib.Path, vendor: str) -> Iterator[bool]:
     """Random plans that a vendor's words say come back as they were; of those that suit another vendor's, what does not is told."""
-    for vendor in writers.WRITERS:
-        said, wrong = there_and_back(vendor, 7, 20)
-        yield compare(f"to-config {vendor} and back", (said > 5, wrong[:1]), (True, []))
-        for like in writers.WRITERS:
-            yield compare(f"to-config {vendor}, a plan for {like}", there_and_back(vendor, 8, 2, like)[1], [])
+    said, wrong = there_and_back(vendor, 7, 20)
+    yield compare(f"to-config {vendor} and back", (said > 5, wrong[:1]), (True, []))
+    for like in writers.WRITERS:
+        yield compare(f"to-config {vendor}, a plan for {like}", there_and_back(vendor, 8, 2, like)[1], [])
 
 
 def damaged(chance: random.Random, text: str) -> str:
@@ -147,9 +148,13 @@ def worst_of(seed: int, count: int) -> list[tuple[str, ...]]:
     return wrong
 
 
-def damaged_configs(folder: pathlib.Path, _gone: set[str]) -> Iterator[bool]:
-    """Damaged configurations end in a scenario that is one, or in a line that names its file and line; a mixed network comes up calm."""
+def damaged_files(_folder: pathlib.Path) -> Iterator[bool]:
+    """Damaged configurations end in a scenario that is one, or in a line that names its file and line."""
     yield compare("from-config of damaged files", worst_of(7, 150)[:1], [])
+
+
+def mixed(folder: pathlib.Path) -> Iterator[bool]:
+    """A network of several vendors comes up calm."""
     place, plan, report = CONFIGS / "mixed" / "core-and-spoke-edges", folder / "plan.toml", folder / "run.txt"
     plan.write_text(tool("from-config", *(f"{name}" for name in ("pe1.cfg", "pe2.cfg", "upe1.conf", "upe2.cfg")), folder=place)[1], encoding="utf-8")
     report.write_bytes(run([program_path(), "replay", plan], folder).stdout)
@@ -157,14 +162,40 @@ def damaged_configs(folder: pathlib.Path, _gone: set[str]) -> Iterator[bool]:
     yield compare("a mixed network", ([row["calm"] for row in found["services"]], len(found["sessions"])), ([True], 5))
 
 
-def netboxes(folder: pathlib.Path, _gone: set[str]) -> Iterator[bool]:
-    """The plan of an export of NetBox is the one that stands beside it; what is none is refused in one line."""
+def export(_folder: pathlib.Path) -> Iterator[bool]:
+    """The plan of an export of NetBox is the one that stands beside it."""
     place = CONFIGS / "netbox"
     status, said, fault = tool("from-netbox", "export.json", folder=place)
     yield compare("from-netbox", (status, said), (0, (place / PLAN).read_text(encoding="utf-8")))
     yield compare("from-netbox, told", fault, (place / TOLD).read_text(encoding="utf-8"))
-    path = folder / "export.json"
-    for text, words in (("", "no JSON"), ("[]", "no object"), ('{"l2vpns": {"results": 3}}', "no L2VPN of type vpls")):
-        path.write_text(text, encoding="utf-8")
-        status, said, fault = tool("from-netbox", path)
-        yield compare(f"from-netbox {text!r}", (status, said, words in fault, fault.count("\n")), (1, "", True, 1))
+
+
+def no_export(folder: pathlib.Path, entry: tuple[str, str]) -> Iterator[bool]:
+    """What is no export is refused in one line."""
+    (text, words), path = entry, folder / "export.json"
+    path.write_text(text, encoding="utf-8")
+    status, said, fault = tool("from-netbox", path)
+    yield compare(f"from-netbox {text!r}", (status, said, words in fault, fault.count("\n")), (1, "", True, 1))
+
+
+NO_EXPORTS = [("", "no JSON"), ("[]", "no object"), ('{"l2vpns": {"results": 3}}', "no L2VPN of type vpls")]
+from_configs = Part(
+    "The plan of each example of configurations is the one that stands beside it, and so is what is told; some are refused.",
+    {
+        **table(sorted(path.parent for path in CONFIGS.glob("*/*/" + PLAN)), lambda place: place.relative_to(CONFIGS), example),
+        "json": lambda _folder: as_json(),
+        **table(REFUSED, lambda entry: f"refused {entry[0]}", refused),
+    },
+)
+to_configs = Part(
+    "Random plans that a vendor's words say come back as they were; of those that suit another vendor's, what does not is told.",
+    table(writers.WRITERS, str, back),
+)
+damaged_configs = Part(
+    "Damaged configurations end in a scenario that is one, or in a line that names its file and line; a mixed network comes up calm.",
+    {"damaged": damaged_files, "mixed": mixed},
+)
+netboxes = Part(
+    "The plan of an export of NetBox is the one that stands beside it; what is none is refused in one line.",
+    {"export": export, **table(NO_EXPORTS, lambda entry: entry[1], no_export)},
+)

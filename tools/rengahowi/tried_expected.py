@@ -6,6 +6,7 @@ import json
 import xml.etree.ElementTree
 from xml.etree.ElementTree import Element
 
+from .rows import Part, table
 from .trying import TOP, compare, run, tool
 
 TYPE_CHECKING = False
@@ -89,22 +90,26 @@ BAD_CASES = [
 ]
 
 
-def expectations(folder: pathlib.Path, _gone: set[str]) -> Iterator[Any]:
-    """Expectations that are met and that are not, failures that somebody defines, and what pipelines read; and files that are none."""
-    file = folder / "expect.toml"
-    for text, status, right in EXPECTED:
-        file.write_text(text, encoding="utf-8")
-        done = tool("what-if", *WORDS, "--kinds", "session,priority", "--expect", file)
-        said = [line.removeprefix("what-if: ") for line in done[2].splitlines()]
-        cases = len({line.split(":")[0] for line in right})
-        yield compare(f"what-if --expect {text!r}", (done[0], said), (status, [f"{cases} of 7 cases are not as expected", *right] if right else []))
-    yield from defined(file)
-    yield from read_by_pipelines(folder, file)
-    for rows, option in ((BAD, "--expect"), (BAD_CASES, "--cases")):
-        for text, words in rows:
-            file.write_text(text, encoding="utf-8")
-            done = tool("what-if", *WORDS, "--kinds", "session", option, file)
-            yield compare(f"what-if {option} {text!r}", (done[0], words in done[2], done[2].count("\n")), (1, True, 1))
+def expected(folder: pathlib.Path, entry: tuple[str, int, list[str]]) -> Iterator[Any]:
+    """Expectations that are met, or that are not."""
+    (text, status, right), file = entry, folder / "expect.toml"
+    file.write_text(text, encoding="utf-8")
+    done = tool("what-if", *WORDS, "--kinds", "session,priority", "--expect", file)
+    said = [line.removeprefix("what-if: ") for line in done[2].splitlines()]
+    cases = len({line.split(":")[0] for line in right})
+    yield compare(f"what-if --expect {text!r}", (done[0], said), (status, [f"{cases} of 7 cases are not as expected", *right] if right else []))
+
+
+def refused(folder: pathlib.Path, entry: tuple[str, str, str]) -> Iterator[Any]:
+    """A file that is none."""
+    (option, text, words), file = entry, folder / "expect.toml"
+    file.write_text(text, encoding="utf-8")
+    done = tool("what-if", *WORDS, "--kinds", "session", option, file)
+    yield compare(f"what-if {option} {text!r}", (done[0], words in done[2], done[2].count("\n")), (1, True, 1))
+
+
+def github_alone(_folder: pathlib.Path) -> Iterator[Any]:
+    """Annotations want expectations."""
     done = tool("what-if", *WORDS, "--github")
     yield compare("what-if --github alone", (done[0], "--expect FILE" in done[2], done[2].count("\n")), (1, True, 1))
 
@@ -168,3 +173,15 @@ def read_by_pipelines(folder: pathlib.Path, file: pathlib.Path) -> Iterator[Any]
     lines = fault.splitlines()[1:]
     right_line = f"::error file={file},line=18,title=quick%2C duct <7>%2C 100%25%3A é::cx loses ca for 180.01 s (1 more site too), and within = \"3s\""
     yield compare("what-if --github", (len(lines), lines[0]), (2, right_line))
+
+
+expectations = Part(
+    "Expectations that are met and that are not, failures that somebody defines, and what pipelines read; and files that are none.",
+    {
+        **table(EXPECTED, lambda entry: entry[0], expected),
+        "defined": lambda folder: defined(folder / "expect.toml"),
+        "pipelines": lambda folder: read_by_pipelines(folder, folder / "expect.toml"),
+        **table([("--expect", *row) for row in BAD] + [("--cases", *row) for row in BAD_CASES], lambda entry: f"refused {entry[2]}", refused),
+        "github-alone": github_alone,
+    },
+)

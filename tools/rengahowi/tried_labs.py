@@ -9,11 +9,12 @@ import xml.etree.ElementTree
 import zlib
 
 from . import pcapng
+from .rows import Part
 from .trying import TOP, compare, run, tool
 
 TYPE_CHECKING = False
 if TYPE_CHECKING:
-    from collections.abc import Iterator
+    from collections.abc import Callable, Iterator
     from typing import Any
 
 ROUND = TOP / "tools" / "rengahowi" / "tried_lab_round.py"
@@ -55,21 +56,21 @@ def has_dpkt() -> bool:
     return False
 
 
-def labs_judged(folder: pathlib.Path, _gone: set[str]) -> Iterator[Any]:
-    """Captures of random runs and of a small lab, with faults and without: the verdict of each, and what is found."""
+def round_trip(folder: pathlib.Path) -> Iterator[Any]:
+    """Captures of random runs, as they are and with changes."""
     if not has_dpkt():
         return
     done = run([DEBIAN, ROUND, str(SEED), str(COUNT)], folder, text=True)
     counts = json.loads(done.stdout.splitlines()[-1]) if done.stdout else {}
     yield compare(f"round trip of captures: {done.stdout}", (done.returncode, counts.get("runs")), (0, COUNT))
     yield compare("round trip of captures, changes", all(counts.get(key) for key in ("taken out: Once", "doubled: Once", "moved: Isolated", "sent on: Split")), True)
-    status, said, _ = tool("from-lab", "--audit", TOP / "examples" / "silent-port" / "LAB.toml")
-    yield compare(f"the lab of the tour: {said}", (status, said in (TOP / "docs" / "TOUR.md").read_text(encoding="utf-8")), (3, True))
-    small = SmallLab(folder / "small")
-    yield from small.good()
-    yield from small.broken()
-    yield from small.faults()
-    yield from small.formats()
+
+
+def of_the_tour(_folder: pathlib.Path) -> Iterator[Any]:
+    """The lab of the tour, whose verdict stands there."""
+    if has_dpkt():
+        status, said, _ = tool("from-lab", "--audit", TOP / "examples" / "silent-port" / "LAB.toml")
+        yield compare(f"the lab of the tour: {said}", (status, said in (TOP / "docs" / "TOUR.md").read_text(encoding="utf-8")), (3, True))
 
 
 class SmallLab:
@@ -282,3 +283,21 @@ def cooked_2(packets: list[tuple[int, bytes, int]]) -> bytes:
         (time, struct.pack(">2sHIHBB8s", octets[12:14], 0, 3, 1, {1: 1, 2: 4}[way], 6, octets[6:12]) + octets[14:]) for time, octets, way in packets
     ]
     return classic(rows, link=276)
+
+
+def of_small_lab(rows: Callable[[SmallLab], Iterator[Any]]) -> Callable[[pathlib.Path], Iterator[Any]]:
+    """A row over a small lab of its own, where captures can be read here."""
+    return lambda folder: rows(SmallLab(folder / "small")) if has_dpkt() else iter(())
+
+
+labs_judged = Part(
+    "Captures of random runs and of a small lab, with faults and without: the verdict of each, and what is found.",
+    {
+        "round-trip": round_trip,
+        "tour": of_the_tour,
+        "good": of_small_lab(SmallLab.good),
+        "broken": of_small_lab(SmallLab.broken),
+        "faults": of_small_lab(SmallLab.faults),
+        "formats": of_small_lab(SmallLab.formats),
+    },
+)

@@ -6,7 +6,8 @@ import json
 
 from .ldp_sessions import Side
 from .plan import read_plan
-from .trying import PROGRAM, TOP, compare, run, tool
+from .rows import Part
+from .trying import PROGRAM, TOP, compare, missing, run, tool
 from .tshark import Segment
 
 TYPE_CHECKING = False
@@ -62,17 +63,6 @@ AUDITED = [
         "Refused: line 7, Form: lift blue_paris 2 0 ffffffffffff02000000000288b5", "  'lift' is no entry that may stand here",
     ]),
 ]  # fmt: skip
-
-
-def looks(folder: pathlib.Path, gone: set[str]) -> Iterator[Any]:
-    """Tables and ways at events, sessions of a capture, who speaks there, and why a report is refused; and words that are none."""
-    yield from tables()
-    yield from ways()
-    if "tshark" not in gone:
-        yield from sessions(folder)
-    yield from pieces()
-    yield from audits(folder)
-    yield from refused(folder)
 
 
 def tables() -> Iterator[Any]:
@@ -181,3 +171,16 @@ def refused(folder: pathlib.Path) -> Iterator[Any]:
     ]:
         status, said, fault = tool(name, *words)
         yield compare(f"{name} {words}", (status, said, right in fault, fault.count("\n")), (1, "", True, 1))
+
+
+looks = Part(
+    "Tables and ways at events, sessions of a capture, who speaks there, and why a report is refused; and words that are none.",
+    {
+        "tables": lambda _folder: tables(),
+        "ways": lambda _folder: ways(),
+        "sessions": lambda folder: () if "tshark" in missing() else sessions(folder),
+        "pieces": lambda _folder: pieces(),
+        "audits": audits,
+        "refused": refused,
+    },
+)

@@ -5,6 +5,7 @@ from __future__ import annotations
 import re
 
 from .crate_heads import PAGE, with_table
+from .rows import Part, table
 from .trying import TOP, compare
 
 TYPE_CHECKING = False
@@ -111,23 +112,49 @@ def laws() -> set[str]:
     return {name for path in TOP.glob("crates/*/src/laws.rt") for name in LAW.findall(path.read_text(encoding="utf-8"))}
 
 
-def named(_folder: pathlib.Path, _gone: set[str]) -> Iterator[Any]:
-    """What pages and docstrings name is there: sections of RFCs, files, headings, commands, definitions."""
-    told = {path: path.read_text(encoding="utf-8") for path in [*pages(), *sources()]}
-    at = {path: str(path.relative_to(TOP)) for path in told}
-    found = [f"{at[path]}: {section}" for path, text in told.items() for section in sections(text)]
+def told_in(paths: Iterable[pathlib.Path]) -> dict[pathlib.Path, str]:
+    """The texts of pages and sources."""
+    return {path: path.read_text(encoding="utf-8") for path in paths}
+
+
+def standards(_folder: pathlib.Path) -> Iterator[Any]:
+    """The sections of standards that pages and sources name."""
+    told = told_in([*pages(), *sources()])
+    found = [f"{path.relative_to(TOP)}: {section}" for path, text in told.items() for section in sections(text)]
     yield compare("sections of RFCs", found, [])
-    known = known_names(sources())
-    for page in pages():
-        text = told[page]
-        yield compare(f"{at[page]}: links", list(links(page, text)), [])
-        yield compare(f"{at[page]}: files", list(files(text)), [])
-        yield compare(f"{at[page]}: commands", list(commands(text)), [])
-    text = told[TOP / "docs" / "THEOREMS.md"]
-    yield compare("definitions and calls of THEOREMS", sorted(set(names(text, known))), [])
+
+
+def page(_folder: pathlib.Path, path: pathlib.Path) -> Iterator[Any]:
+    """The links, files and commands that a page names."""
+    text = path.read_text(encoding="utf-8")
+    at = path.relative_to(TOP)
+    yield compare(f"{at}: links", list(links(path, text)), [])
+    yield compare(f"{at}: files", list(files(text)), [])
+    yield compare(f"{at}: commands", list(commands(text)), [])
+
+
+def theorems(_folder: pathlib.Path) -> Iterator[Any]:
+    """The definitions, calls and laws of THEOREMS."""
+    text = (TOP / "docs" / "THEOREMS.md").read_text(encoding="utf-8")
+    yield compare("definitions and calls of THEOREMS", sorted(set(names(text, known_names(sources())))), [])
     yield compare("laws that THEOREMS lacks", sorted(laws() - set(WORD.findall(text))), [])
-    yield compare("crates of ARCHITECTURE: tools/make-crate-table", with_table(told[PAGE]) == told[PAGE], True)
+
+
+def crates(_folder: pathlib.Path) -> Iterator[Any]:
+    """The table of crates is the one that is made."""
+    text = PAGE.read_text(encoding="utf-8")
+    yield compare("crates of ARCHITECTURE: tools/make-crate-table", with_table(text) == text, True)
+
+
+def nothing(_folder: pathlib.Path) -> Iterator[Any]:
+    """What names nothing is found."""
     bad = "RFC 5036\n/// sections 3.5.7 and 3.99, [here](THEOREMS.md#no-heading), `bin/vplsnet play`, `docs/NOTHING.md`, `is_never_there`"
-    seen = [*sections(bad), *links(TOP / "docs" / "TOUR.md", bad), *files(bad), *commands(bad), *names(bad, known)]
+    seen = [*sections(bad), *links(TOP / "docs" / "TOUR.md", bad), *files(bad), *commands(bad), *names(bad, known_names(sources()))]
     wanted = ["RFC 5036 section 3.99", "THEOREMS.md#no-heading", "docs/NOTHING.md", "play", "is_never_there"]
     yield compare("what names nothing is found", seen, wanted)
+
+
+named = Part(
+    "What pages and docstrings name is there: sections of RFCs, files, headings, commands, definitions.",
+    {"standards": standards, **table(pages(), lambda path: path.relative_to(TOP), page), "theorems": theorems, "crates": crates, "nothing": nothing},
+)

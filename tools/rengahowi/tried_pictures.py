@@ -6,6 +6,7 @@ import json
 import re
 import xml.etree.ElementTree
 
+from .rows import Part
 from .trying import SVG, TOP, boxes_in, compare, driver, tool
 
 TYPE_CHECKING = False
@@ -23,14 +24,15 @@ PLANS = {
 }
 
 
-def pictures(folder: pathlib.Path, _gone: set[str]) -> Iterator[Any]:
-    """Pictures, and the text for Graphviz."""
+def with_plans(folder: pathlib.Path) -> pathlib.Path:
+    """A folder, with the plans that are drawn."""
     for name, words in PLANS.items():
         (folder / f"{name}.toml").write_text(tool("make-plan", *words)[1], encoding="utf-8")
-    yield from as_dot(folder)
-    yield from places(folder)
-    yield from behind_events()
-    yield from names_apart(folder)
+    return folder
+
+
+def refused(_folder: pathlib.Path) -> Iterator[Any]:
+    """Words that are none."""
     example = EXAMPLES / "old-way.toml"
     bad: list[tuple[tuple[Any, ...], str]] = [((example, "--at", "3"), "--report"), ((example, "--service", "t"), "no service 't'"), ((example, "--report", EXAMPLES / "old-way.txt", "--at", "x"), "no event")]
     for words, right in bad:
@@ -101,3 +103,15 @@ def names_apart(folder: pathlib.Path) -> Iterator[Any]:
         picture.write_text(tool("picture", path)[1], encoding="utf-8")
         seen = json.loads(python("rengahowi.overlaps", picture) or "null")
         yield compare(f"picture of {name}, names that meet", seen, [])
+
+
+pictures = Part(
+    "Pictures, and the text for Graphviz.",
+    {
+        "as-dot": lambda folder: as_dot(with_plans(folder)),
+        "places": lambda folder: places(with_plans(folder)),
+        "behind-events": lambda _folder: behind_events(),
+        "names-apart": lambda folder: names_apart(with_plans(folder)),
+        "refused": refused,
+    },
+)

@@ -10,6 +10,7 @@ from .failures import cases_of
 from .plan import plan_of, read_plan
 from .program import UNPROVED
 from .report import read_report
+from .rows import Part, table
 from .steps import Steps, steps_of
 from .trying import TOP, compare, driver, tool, unpacked
 from .what_if_page import followed, ladder_of
@@ -45,17 +46,6 @@ NUMBER = [(9, "waits b"), (12, "rests 0"), (79, "")]
 OF_TABLES = ("session", "end", "told", "heard", "mac")
 # Where `tables` holds no session, the page tells how the last one ended.
 ENDED, NONE = "Ended:", "NonExistent"
-
-
-def players(folder: pathlib.Path, _gone: set[str]) -> Iterator[Any]:
-    """The steps of whole runs, the page in a browser, and files that are none."""
-    for name in ("old-way", "restart", "ageing", "mesh-over-chain", "label-comes-back"):
-        yield from whole_run(name)
-    yield compare("player, a number that comes back", list(history("label-comes-back", "label a 1048575")), NUMBER)
-    yield from cases(folder)
-    yield from kept_pages()
-    yield from in_browser(folder)
-    yield from refused(folder)
 
 
 def tables_of(at: AtEvent, events: list[str], number: int) -> dict[str, str]:
@@ -203,3 +193,21 @@ def refused(folder: pathlib.Path) -> Iterator[Any]:
         report.write_text(content, encoding="utf-8")
         status, said, fault = tool("player", example, report)
         yield compare(f"player of a report that is {name}", (status, said, right in fault, fault.count("\n")), (1, "", True, 1))
+
+
+def label_history(_folder: pathlib.Path) -> Iterator[Any]:
+    """A number that is given again."""
+    yield compare("player, a number that comes back", list(history("label-comes-back", "label a 1048575")), NUMBER)
+
+
+players = Part(
+    "The steps of whole runs, the page in a browser, and files that are none.",
+    {
+        **table(("old-way", "restart", "ageing", "mesh-over-chain", "label-comes-back"), str, lambda _folder, name: whole_run(name)),
+        "label-history": label_history,
+        "cases": cases,
+        "kept-pages": lambda _folder: kept_pages(),
+        "browser": in_browser,
+        "refused": refused,
+    },
+)

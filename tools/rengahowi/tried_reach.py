@@ -9,6 +9,7 @@ from .frames import follow
 from .plan import read_plan
 from .reached import reach_of
 from .report import read_report
+from .rows import Part
 from .trying import PROGRAM, TOP, compare, run, tool
 
 TYPE_CHECKING = False
@@ -82,20 +83,6 @@ def scenario(events: Iterable[str], keys: str = "", left_out: str = "") -> str:
 def flood(circuit: str) -> list[str]:
     """A broadcast enters at a circuit, and all its copies arrive."""
     return [f"frame {circuit} {BROADCAST.format(circuit[-1].replace('x', 'd'))}", "flow 100"]
-
-
-def reaches(folder: pathlib.Path, _gone: set[str]) -> Iterator[Any]:
-    """Whom frames reach in quiet services, and which services are sound: by hand, in reports of runs, of `discover` and of a lab."""
-    yield from by_hand()
-    yield from unsound(folder)
-    yield from used(folder)
-    yield from told_otherwise(folder)
-    yield from known(folder)
-    yield from scripted(folder)
-    yield from in_a_lab(folder)
-    yield from off(folder)
-    yield from planned(folder)
-    yield from walked()
 
 
 def summed(folder: pathlib.Path, text: str) -> Any:
@@ -250,3 +237,20 @@ def walked() -> Iterator[Any]:
             if not network.unsettled(service) and pairs != joined:
                 wrong.append((path.name, service))
     yield compare("reached, beside the way of a frame", wrong, [])
+
+
+reaches = Part(
+    "Whom frames reach in quiet services, and which services are sound: by hand, in reports of runs, of `discover` and of a lab.",
+    {
+        "by-hand": lambda _folder: by_hand(),
+        "unsound": unsound,
+        "used": used,
+        "told-otherwise": told_otherwise,
+        "known": known,
+        "scripted": scripted,
+        "in-a-lab": in_a_lab,
+        "off": off,
+        "planned": planned,
+        "walked": lambda _folder: walked(),
+    },
+)

@@ -12,6 +12,7 @@ from .failures import cases_of
 from .frames import follow
 from .plan import read_plan
 from .report import read_report
+from .rows import Part, table
 from .silent_by_hand import BY_HAND, FAILED, MENDED, WHOLE
 from .stale import Tables, stale
 from .summing import sum_up
@@ -43,18 +44,6 @@ TIMES = '[time]\ntick = "500ms"\none_way = "10ms"\n\n[[link]]\nedges = ["x", "b"
 # out in tick 15 that a is dead; where a does, x hears of it by a message. The KeepAlive of 9 is over before.
 HELLOS = [("a", "b", 45), ("b", "a", 45), ("a", "c", 45), ("c", "a", 45), ("b", "c", 45), ("c", "b", 45), ("a", "x", 15), ("x", "a", 45), ("b", "x", 45), ("x", "b", 45)]
 SCRIPTED = [((), "silent a", 15.01), ((), "silent a to x", 15.01), ((), "silent x to a", 15.02), (("--set", "keepalive=9"), "silent a", 9.01)]
-
-
-def silences(folder: pathlib.Path, _gone: set[str]) -> Iterator[Any]:
-    """Silent failures counted by hand, and beside what `summary` counts; times, other timers, and words that are none."""
-    yield from by_hand()
-    for name, begin in (CROSS, MOVES, MESHED):
-        yield from as_summed(name, begin)
-    yield from timed(folder)
-    yield from scripted(folder)
-    yield from astray()
-    yield from listed()
-    yield from refused(folder)
 
 
 def tried(name: str, begin: str, *words: Any) -> Any:
@@ -247,3 +236,17 @@ def refused(folder: pathlib.Path) -> Iterator[Any]:
         file.write_text(text, encoding="utf-8")
         status, said, fault = tool("what-if", path, *words)
         yield compare(f"what-if {words} {text!r}", (status, said, right in fault, fault.count("\n")), (1, "", True, 1))
+
+
+silences = Part(
+    "Silent failures counted by hand, and beside what `summary` counts; times, other timers, and words that are none.",
+    {
+        "by-hand": lambda _folder: by_hand(),
+        **table((CROSS, MOVES, MESHED), lambda entry: f"summed {entry[0]}", lambda _folder, entry: as_summed(*entry)),
+        "times": timed,
+        "scripted": scripted,
+        "astray": lambda _folder: astray(),
+        "listed": lambda _folder: listed(),
+        "refused": refused,
+    },
+)

@@ -111,6 +111,6 @@ def types(folder: pathlib.Path, _gone: set[str]) -> Iterator[Any]:
     if mypy is None:
         print("mypy is missing (Debian: mypy), and the types of the tools are not read")
         return
-    done = run([mypy, "--cache-dir", folder, "rengahowi"], TOP / "tools", text=True)
-    yield compare("types of tools/rengahowi", [line for line in done.stdout.splitlines() if ": error:" in line], [])
+    done = run([mypy, "--cache-dir", folder, "rengahowi", "check"], TOP / "tools", text=True)
+    yield compare("types of tools/rengahowi and tools/check", [line for line in done.stdout.splitlines() if ": error:" in line], [])
     yield compare("mypy of tools/rengahowi", (done.returncode, done.stderr), (0, ""))

@@ -3,6 +3,7 @@
 from __future__ import annotations
 
 import base64
+import functools
 import gzip
 import json
 import pathlib
@@ -59,7 +60,8 @@ def comes(is_so: Callable[[], bool]) -> bool:
     return True
 
 
-def missing() -> Any:
+@functools.cache
+def missing() -> set[str]:
     """The external programs that are missing, each of which is named."""
     gone = {program for program in PACKAGES if shutil.which(program) is None}
     for program in sorted(gone):
