@@ -1,4 +1,4 @@
-"""The checks of `tools/from-lab` and `tools/lab`: captures of random runs, captures with faults, the lab of the tour, and a real lab."""
+"""The checks of `tools/from-lab`: captures of random runs and of a small lab, with faults and without, and the lab of the tour."""
 
 from __future__ import annotations
 
