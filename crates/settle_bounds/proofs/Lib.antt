@@ -1,0 +1,4 @@
+pub mod NearLemmas
+pub mod PayLemmas
+pub mod WalkLemmas
+pub mod WorthLemmas
