@@ -1,3 +1,4 @@
+pub mod HearLemmas
 pub mod NearLemmas
 pub mod PayLemmas
 pub mod WalkLemmas

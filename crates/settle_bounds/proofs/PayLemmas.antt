@@ -78,7 +78,7 @@ module _ (plan : Plan) (checked : IsChecked plan) (me : EdgeId) (q : EndPlace) (
   change_walk : (change : EdgeState → EdgeState) → (changes change work).edge.me ≡ me → Walks plan me work.effects (mends plan taken_all (changes change work)).effects (mend_cost plan me)
   change_walk change at = subst (λ (es : List Effect). Walks plan me es (mends plan taken_all (changes change work)).effects (mend_cost plan me)) (changed_effects change work) (mends_walk plan me (changes change work) at)
 
-  maps : (fec : PwFec) (label : ℕ) (status : Option PwStatus) (points : List Point) → end_of_fec plan work.edge q.peer fec ≡ Some q → takes_content plan work.edge.me q (binding_in fec label status points).told ≡ true
+  pub maps : (fec : PwFec) (label : ℕ) (status : Option PwStatus) (points : List Point) → end_of_fec plan work.edge q.peer fec ≡ Some q → takes_content plan work.edge.me q (binding_in fec label status points).told ≡ true
       → Goes (mend_cost plan me) (hears_mapping plan taken_all q.peer fec label status points work)
   maps fec label status points named takes = record {
     walks = subst (λ (w : Work). Walks plan me work.effects (mends plan taken_all w).effects (mend_cost plan me)) (sym heard_is) (change_walk change bound_me);
@@ -104,7 +104,7 @@ module _ (plan : Plan) (checked : IsChecked plan) (me : EdgeId) (q : EndPlace) (
       → (changes (with_named plan q.peer fec one all fec.pw_id) work).edge ≡ with_end q (one (end_at work.edge q)) work.edge
   named_edge fec one all named = changed_edge (with_named plan q.peer fec one all fec.pw_id) work ∙ named_alone plan q.peer fec q one all work.edge named
 
-  withdraws : (fec : PwFec) (label : Option ℕ) → end_of_fec plan work.edge q.peer fec ≡ Some q
+  pub withdraws : (fec : PwFec) (label : Option ℕ) → end_of_fec plan work.edge q.peer fec ≡ Some q
       → Goes (λ cost. cost q Releases + mend_cost plan me cost) (hears_withdraw plan taken_all q.peer fec label work)
   withdraws fec label named = record {
     walks = walks_then plan me work.effects next.effects (mends plan taken_all next).effects (λ cost. cost q Releases) (mend_cost plan me)
@@ -129,7 +129,7 @@ module _ (plan : Plan) (checked : IsChecked plan) (me : EdgeId) (q : EndPlace) (
   unfolding Rattle.edge_model.specs.State.with_kept with_end
   releasing_me label edge = refl
 
-  releases : (fec : PwFec) (label : Option ℕ) → end_of_fec plan work.edge q.peer fec ≡ Some q → Goes (mend_cost plan me) (hears_release plan q.peer fec label work)
+  pub releases : (fec : PwFec) (label : Option ℕ) → end_of_fec plan work.edge q.peer fec ≡ Some q → Goes (mend_cost plan me) (hears_release plan q.peer fec label work)
   releases fec label named = record {
     walks = change_walk change (ap (λ (e : EdgeState). e.me) (changed_edge change work ∙ ap (λ (o : Option EndPlace). with_released label o work.edge) named) ∙ (releasing_me label work.edge ∙ mended.me));
     near = release_near plan checked me q q_is fec label work mended named;
@@ -167,7 +167,7 @@ module _ (plan : Plan) (checked : IsChecked plan) (me : EdgeId) (q : EndPlace) (
       other : HoldsOther q work.edge next.edge
       other = subst (HoldsOther q work.edge) (sym edge_is) (holds_other q (stated status (end_at work.edge q)) work.edge refl)
 
-  states : (code : StatusCode) (status : Option PwStatus) (fec : PwFec) → end_of_fec plan work.edge q.peer fec ≡ Some q → Goes (mend_cost plan me) (hears_status plan q.peer code status (Some fec) work)
+  pub states : (code : StatusCode) (status : Option PwStatus) (fec : PwFec) → end_of_fec plan work.edge q.peer fec ≡ Some q → Goes (mend_cost plan me) (hears_status plan q.peer code status (Some fec) work)
   states code None fec named = none (mend_cost plan me)
   states code (Some status) fec named = by (nat_eq code.code pw_status_code) where
     by : (b : Bool) → Goes (mend_cost plan me) (cond b (changes (with_named plan q.peer fec (stated status) (group_stated fec.group status) fec.pw_id) work) work)
@@ -319,7 +319,7 @@ module _ (plan : Plan) (checked : IsChecked plan) (me : EdgeId) (q : EndPlace) (
         found_clears plan me may work mended.me addresses beyond (λ place is. (ends_there (mate_on q_is.row.path me.0 q.peer.0) place is, refl)) work begins,
       )
 
-    clears_it : (fec : PwFec) → end_of_fec plan work.edge q.peer fec ≡ Some q → Goes (λ cost. clear_cost plan me cost q q_is.row) (hears_mac_withdraw plan taken_all q.peer (Some fec) (Some addresses) work)
+    pub clears_it : (fec : PwFec) → end_of_fec plan work.edge q.peer fec ≡ Some q → Goes (λ cost. clear_cost plan me cost q q_is.row) (hears_mac_withdraw plan taken_all q.peer (Some fec) (Some addresses) work)
     clears_it fec named = subst (Goes (λ cost. clear_cost plan me cost q q_is.row)) (sym (ap (λ (o : Option EndPlace). clears_by plan taken_all addresses o work) named)) (record {
       walks = walks_wider plan me work.effects (mends plan taken_all heard).effects (λ cost. clear_cost plan me cost q q_is.row + 0) (λ cost. clear_cost plan me cost q q_is.row) (λ cost. no_more (clear_cost plan me cost q q_is.row))
           (walks_then plan me work.effects heard.effects (mends plan taken_all heard).effects (λ cost. clear_cost plan me cost q q_is.row) (λ cost. 0) cleared.0
