@@ -1,4 +1,6 @@
 pub mod EventLemmas
+pub mod FallLemmas
+pub mod HeardLemmas
 pub mod HearLemmas
 pub mod NearLemmas
 pub mod PayLemmas
