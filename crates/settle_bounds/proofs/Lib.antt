@@ -3,7 +3,9 @@ pub mod FallLemmas
 pub mod HeardLemmas
 pub mod HearLemmas
 pub mod NearLemmas
+pub mod NetworkLemmas
 pub mod PayLemmas
 pub mod ReplyLemmas
+pub mod SameLemmas
 pub mod WalkLemmas
 pub mod WorthLemmas
