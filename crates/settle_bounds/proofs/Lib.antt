@@ -6,6 +6,7 @@ pub mod NearLemmas
 pub mod NetworkLemmas
 pub mod PayLemmas
 pub mod ReplyLemmas
+pub mod RunLemmas
 pub mod SameLemmas
 pub mod WalkLemmas
 pub mod WorthLemmas
