@@ -1,5 +1,5 @@
 -- What an edge that had mended puts when a session comes up, or ends.
-use Rattle.std.proofs.Common.{◌≡◌, ◌≤◌, ◌<◌, ◌+◌, ◌++◌, ◌∙◌, ◌&&◌, ◌⊎◌, ℕ, suc, Bool, true, false, cond, is_some, nat_eq, option_map, List, [], ◌∷◌, Option, Some, None, refl, sym, ap, subst, arith, inl, inr}
+use Rattle.std.proofs.Common.{◌≡◌, ◌≤◌, ◌+◌, ◌++◌, ◌∙◌, ◌&&◌, ◌⊎◌, ℕ, Bool, true, false, cond, is_some, nat_eq, List, [], ◌∷◌, Option, Some, None, refl, sym, ap, subst, arith, inl, inr}
 use Rattle.std.proofs.lemmas.Bool.{cases_Bool, eqb-true}
 use Rattle.std.proofs.lemmas.List.{append_cancel_left}
 use Rattle.std.specs.List.{AllByRecursion}
@@ -14,18 +14,16 @@ use Rattle.net_base.specs.plan.Places.{wire_row}
 use Rattle.label_space.specs.declared.kept.Kept.{Kept}
 use Rattle.label_space.specs.Labels.{number_to_give}
 use Rattle.session_core.specs.Table.{SessionEvent}
-use Rattle.pw_signalling.specs.declared.binding.Binding.{Binding}
 use Rattle.pw_signalling.specs.declared.told.Told.{Told}
-use Rattle.pw_signalling.specs.End.{EndState, LocalPart, Idle, Advertised}
+use Rattle.pw_signalling.specs.End.{EndState, Idle, Advertised}
 use Rattle.pw_signalling.specs.End as end_spec
-use Rattle.pw_signalling.specs.Rows.{lost}
 use Rattle.pw_signalling.specs.Laws.{own_label}
 use Rattle.edge_model.specs.Across.{mate_of}
 use Rattle.edge_model.specs.declared.effect.Effect.{Effect}
 use Rattle.edge_model.specs.declared.end_place.EndPlace.{EndPlace}
 use Rattle.edge_model.specs.Labels.{keeps_lost, keeps_one, label_to_give}
 use Rattle.edge_model.specs.Mend.{is_up_with, mends, offer_stands, wish, wish_by, wish_of}
-use Rattle.edge_model.specs.Session.{clears_ends, happens, happens_with_ends, losing_ends}
+use Rattle.edge_model.specs.Session.{happens, happens_with_ends, losing_ends}
 use Rattle.edge_model.specs.State.{EdgeState, Peering, end_at, has_end, is_there, with_ends_beside, with_kept}
 use Rattle.edge_model.specs.Work.{Work, changes}
 use Rattle.edge_model.proofs.HeldLemmas.{clears_keep}
@@ -39,12 +37,12 @@ use Rattle.rest_laws.specs.Levels.{Saying, Binds, Withdraws, Releases, States, C
 use Rattle.rest_laws.proofs.ClearLemmas.{put_mended}
 use Rattle.rest_laws.proofs.DueLemmas.{IsDue, PutsMore, PutsWell}
 use Rattle.rest_laws.proofs.HearLemmas.{due_after, same_to_give}
-use Rattle.rest_laws.proofs.PutLemmas.{HasPut, mending_puts_due}
+use Rattle.rest_laws.proofs.PutLemmas.{mending_puts_due}
 use Rattle.quiet_laws.proofs.ToldLemmas.{TellsMore}
-use Rattle.settle_bounds.specs.Bound.{allowed, fall_cost, is_peer, may_fall, may_rise, rise_cost}
+use Rattle.settle_bounds.specs.Bound.{allowed, is_peer, may_fall, may_rise}
 use Rattle.settle_bounds.specs.Worth.{gate, mend_cost, worth_at}
-use Rattle.settle_bounds.proofs.NearLemmas.{IsLikeAt, TellsAlike, tells_alike}
-use Rattle.settle_bounds.proofs.WalkLemmas.{AreSlots, Costs, Walks, mends_walk, slots_sum}
+use Rattle.settle_bounds.proofs.NearLemmas.{TellsAlike, tells_alike}
+use Rattle.settle_bounds.proofs.WalkLemmas.{AreSlots, Walks, mends_walk, slots_sum}
 use Rattle.settle_bounds.proofs.WorthLemmas.{AllSlots, may_all, paid, slots_both, slots_less, told_least}
 
 -- ---- an edge after an event

@@ -1,5 +1,5 @@
 -- While an edge hears a neighbour what it tells is worth less than what it hears, and than how far its session moves.
-use Rattle.std.proofs.Common.{◌≡◌, ◌≤◌, ◌<◌, ◌+◌, ◌*◌, ◌++◌, ◌∙◌, ◌⊎◌, ℕ, zero, suc, Bool, true, false, cond, nat_eq, List, [], ◌∷◌, Option, Some, None, length, refl, sym, ap, subst, inl, inr, ⊎_elim, arith}
+use Rattle.std.proofs.Common.{◌≡◌, ◌≤◌, ◌<◌, ◌+◌, ◌++◌, ◌∙◌, ◌⊎◌, ℕ, suc, Bool, true, false, cond, nat_eq, List, [], ◌∷◌, Option, Some, None, refl, sym, ap, subst, inl, inr, ⊎_elim, arith}
 use Rattle.std.proofs.lemmas.Bool.{cases_Bool}
 use Rattle.std.proofs.lemmas.List.{append_cancel_left}
 use Rattle.std.specs.List.{AllByRecursion}
@@ -23,23 +23,20 @@ use Rattle.edge_model.specs.Session.{happens_with_ends, with_session}
 use Rattle.edge_model.specs.Settled.{is_mended, is_told}
 use Rattle.edge_model.specs.State.{EdgeState, Peering, has_end, is_there, with_peering}
 use Rattle.edge_model.specs.Work.{Work, changes}
-use Rattle.edge_model.proofs.MendedLemmas.{mends_mended}
-use Rattle.edge_model.proofs.OneEndLemmas.{has_one_end}
-use Rattle.edge_model.proofs.SignalLemmas.{hears_message_signals}
 use Rattle.network_model.specs.Absorb.{taken_all}
 use Rattle.network_model.specs.State.{NetworkState}
 use Rattle.flight_laws.specs.Across.{IsMappingTaken}
 use Rattle.flight_laws.specs.Ends.{HasTypes, ends_at}
-use Rattle.flight_laws.specs.Messages.{AreSaid, IsSaidAcross}
+use Rattle.flight_laws.specs.Messages.{IsSaidAcross}
 use Rattle.flight_laws.specs.Pair.{AreTalking}
 use Rattle.flight_laws.specs.Rules.{AllMessages}
 use Rattle.flight_laws.proofs.HearLemmas.{HearsOn, hears_kept}
-use Rattle.flight_laws.proofs.HearingLemmas.{KeptByHearing, KeptByMessages, fatal_heard, message_heard, session_heard, up_heard}
-use Rattle.flight_laws.proofs.MendedRunLemmas.{IsMendedAt, mended_at}
+use Rattle.flight_laws.proofs.HearingLemmas.{KeptByHearing, KeptByMessages, message_heard}
+use Rattle.flight_laws.proofs.MendedRunLemmas.{IsMendedAt}
 use Rattle.flight_laws.proofs.MendingLemmas.{mends_keep}
 use Rattle.flight_laws.proofs.RuledHearLemmas.{IsHearing, hearing_ruled}
 use Rattle.flight_laws.proofs.SaidLemmas.{fatal_ends}
-use Rattle.rest_laws.specs.Levels.{Saying, level_of}
+use Rattle.rest_laws.specs.Levels.{level_of}
 use Rattle.rest_laws.specs.Rises.{HasMended, PutsAbove, put_most}
 use Rattle.rest_laws.proofs.ClearLemmas.{put_mended}
 use Rattle.rest_laws.proofs.DeliverLemmas.{HasLevel, class_of, goes_by_plan, holds_by_plan, waits_put}

@@ -1,9 +1,8 @@
 -- A message is worth more than all that an edge that has mended tells on hearing it.
-use Rattle.std.proofs.Common.{◌≡◌, ◌≤◌, ◌<◌, ◌+◌, ◌*◌, ◌-◌, ◌++◌, ◌∙◌, ◌&&◌, ◌/◌, ℕ, zero, suc, Bool, true, false, cond, not, nat_eq, length, drop, List, [], ◌∷◌, Option, Some, None, option_and_then, refl, sym, ap, subst, arith}
+use Rattle.std.proofs.Common.{◌≡◌, ◌≤◌, ◌<◌, ◌+◌, ◌*◌, ◌-◌, ◌++◌, ◌∙◌, ◌&&◌, ◌/◌, ℕ, zero, suc, Bool, true, false, cond, not, nat_eq, length, drop, List, Option, Some, None, option_and_then, refl, sym, ap, subst, arith}
 use Rattle.std.proofs.lemmas.Option.{same_Some}
 use Rattle.std.proofs.lemmas.List.{append_cancel_left}
 use Rattle.std.specs.List.{AllByRecursion}
-use Rattle.net_values.proofs.BoolLemmas.{clash}
 use Rattle.net_values.specs.declared.mac.Mac.{Mac}
 use Rattle.net_base.specs.declared.plan.Plan.{Plan}
 use Rattle.net_base.specs.declared.plan.places.EdgeId.{EdgeId}
@@ -23,7 +22,6 @@ use Rattle.edge_model.specs.declared.end_place.EndPlace.{EndPlace}
 use Rattle.edge_model.specs.EndPlaces.{end_named}
 use Rattle.edge_model.specs.Hear.{acts_on}
 use Rattle.edge_model.specs.Mend.{mends}
-use Rattle.edge_model.specs.Signal.{end_of_fec}
 use Rattle.edge_model.specs.State.{EdgeState}
 use Rattle.edge_model.specs.Work.{Work}
 use Rattle.network_model.specs.Absorb.{taken_all}
@@ -32,13 +30,11 @@ use Rattle.flight_laws.proofs.MendedRunLemmas.{IsMendedAt}
 use Rattle.flight_laws.proofs.PlaceLemmas.{IsEndOf, IsNamed, NamedEnd, end_of, named_is}
 use Rattle.rest_laws.specs.Levels.{Saying, Binds, Withdraws, Releases, States, Clears, address_stage, edges_spoken, is_above, label_stage, level, level_at, level_by, level_of, levels_end, pw_id_of, saying_of, status_stage, way_hangs}
 use Rattle.rest_laws.specs.Rises.{IsByPlan, PutsAbove, left_above}
-use Rattle.rest_laws.proofs.DueLemmas.{PutsMore}
 use Rattle.rest_laws.proofs.HearLemmas.{spoken_few}
 use Rattle.quiet_laws.proofs.ToldLemmas.{TellsMore}
-use Rattle.quiet_laws.proofs.ToldLemmas as told_lemmas
 use Rattle.settle_bounds.specs.Worth.{Worths, beside, clear_cost, comes_by, comes_of, follow_cost, gate, may_follow, mend_cost, message_worth, worth, worth_at, worth_by, worth_named}
 use Rattle.settle_bounds.proofs.PayLemmas.{Follows, clears_it, maps, releases, states, withdraws}
-use Rattle.settle_bounds.proofs.WalkLemmas.{AreSlots, Costs, Slot, Walks, slots_sum}
+use Rattle.settle_bounds.proofs.WalkLemmas.{AreSlots, Costs, Walks, slots_sum}
 use Rattle.settle_bounds.proofs.WorthLemmas.{AllSlots, above_all, follow_least, may_all, paid, told_least}
 
 -- ---- levels

@@ -1,8 +1,7 @@
 -- All octets that come of a neighbour are heard, message by message, each of which takes away one at least.
-use Rattle.std.proofs.Common.{◌≡◌, ◌≤◌, ◌<◌, ◌+◌, ◌++◌, ◌∙◌, ◌⊎◌, ℕ, zero, suc, Bool, true, false, cond, nat_eq, List, [], ◌∷◌, Option, Some, None, length, refl, sym, ap, subst, inl, inr, ⊎_elim, arith}
+use Rattle.std.proofs.Common.{◌≡◌, ◌≤◌, ◌<◌, ◌+◌, ◌++◌, ◌∙◌, ◌⊎◌, ℕ, zero, suc, Bool, true, false, nat_eq, List, [], ◌∷◌, Option, Some, None, length, refl, sym, ap, subst, inl, inr, ⊎_elim, arith}
 use Rattle.std.proofs.lemmas.Bool.{cases_Bool}
 use Rattle.std.proofs.lemmas.List.{length-append}
-use Rattle.net_values.proofs.BoolLemmas.{clash}
 use Rattle.net_base.specs.declared.plan.Plan.{Plan}
 use Rattle.net_base.specs.declared.plan.places.EdgeId.{EdgeId}
 use Rattle.net_base.specs.plan.Accepted.{IsChecked}
@@ -32,7 +31,7 @@ use Rattle.flight_laws.specs.Ends.{HasTypes, WorksOn, ends_at}
 use Rattle.flight_laws.specs.Messages.{AreSaid, IsSaidAcross, octets_of_all}
 use Rattle.flight_laws.specs.Pair.{AreFit}
 use Rattle.flight_laws.proofs.FrontLemmas.{GoesBehind, HasNext, IsProperFront, cut, front_is}
-use Rattle.flight_laws.proofs.HearLemmas.{HearsOn, heard_works}
+use Rattle.flight_laws.proofs.HearLemmas.{heard_works}
 use Rattle.flight_laws.proofs.HearingLemmas.{HasHeard, fatal_heard, session_heard, up_heard}
 use Rattle.flight_laws.proofs.MendedRunLemmas.{IsMendedAt, mended_at}
 use Rattle.flight_laws.proofs.MendingLemmas.{mends_keep}

@@ -8,5 +8,6 @@ pub mod PayLemmas
 pub mod ReplyLemmas
 pub mod RunLemmas
 pub mod SameLemmas
+pub mod SettleLemmas
 pub mod WalkLemmas
 pub mod WorthLemmas

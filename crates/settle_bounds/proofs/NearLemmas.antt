@@ -1,13 +1,10 @@
 -- Labels go on along their own wire: what an edge that had mended puts of labels, once an end of a wire has changed, it puts at ends of this wire.
-use Rattle.std.proofs.Common.{◌≡◌, ◌∙◌, ◌&&◌, ◌||◌, ◌⊎◌, ℕ, Bool, true, false, cond, is_some, nat_eq, List, Option, Some, None, option_and_then, refl, sym, ap, subst, inl, inr}
-use Rattle.std.proofs.lemmas.Bool.{cases_Bool}
-use Rattle.net_values.proofs.BoolLemmas.{clash}
+use Rattle.std.proofs.Common.{◌≡◌, ◌∙◌, ◌&&◌, ◌⊎◌, ℕ, Bool, true, false, cond, is_some, nat_eq, List, Option, Some, None, refl, sym, ap, subst, inl, inr}
 use Rattle.net_base.specs.declared.plan.Plan.{Plan}
 use Rattle.net_base.specs.declared.plan.places.EdgeId.{EdgeId}
 use Rattle.net_base.specs.declared.plan.wire_plan.WirePlan.{WirePlan}
 use Rattle.net_base.specs.plan.Accepted.{IsChecked}
 use Rattle.net_base.specs.plan.Paths.{mate, mate_on}
-use Rattle.net_base.specs.plan.Places.{wire_row}
 use Rattle.pw_tlvs.specs.declared.point.Point.{Point}
 use Rattle.pw_tlvs.specs.declared.pw_fec.PwFec.{PwFec}
 use Rattle.pw_tlvs.specs.declared.pw_status.PwStatus.{PwStatus}
@@ -30,11 +27,11 @@ use Rattle.network_model.specs.Absorb.{taken_all}
 use Rattle.flight_laws.proofs.MendedRunLemmas.{IsMendedAt}
 use Rattle.flight_laws.proofs.PlaceLemmas.{IsEndOf}
 use Rattle.flight_laws.proofs.WorksLemmas.{changed_edge}
-use Rattle.rest_laws.specs.Levels.{Saying, Binds, Withdraws, Releases, States, Clears}
+use Rattle.rest_laws.specs.Levels.{Saying, Binds, Withdraws, Releases}
 use Rattle.rest_laws.proofs.BindLemmas.{HoldsOther, some_terminal, tells_by, terminal_stands, wish_passing}
 use Rattle.rest_laws.proofs.DueLemmas.{IsDue, PutsMore}
 use Rattle.rest_laws.proofs.HearLemmas.{due_after, release_due}
-use Rattle.rest_laws.proofs.PutLemmas.{HasSaid, changed_effects, end_else, mending_puts_due, puts_then, says_puts, stands_at}
+use Rattle.rest_laws.proofs.PutLemmas.{HasSaid, changed_effects, end_else, mending_puts_due, puts_then, says_puts}
 use Rattle.rest_laws.proofs.TakeLemmas.{holds_other, pw_named}
 use Rattle.settle_bounds.specs.Worth.{may_follow}
 

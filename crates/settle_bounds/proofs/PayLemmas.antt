@@ -1,30 +1,21 @@
 -- Whatever an edge that has mended tells on a message from a neighbour is worth less than the message.
-use Rattle.std.proofs.Common.{◌≡◌, ◌≤◌, ◌<◌, ◌+◌, ◌-◌, ◌++◌, ◌∙◌, ◌&&◌, ◌/◌, ℕ, zero, suc, Bool, true, false, cond, nat_eq, length, drop, List, [], ◌∷◌, Option, Some, None, option_and_then, slice_get, refl, sym, ap, subst, arith, zero-add}
-use Rattle.std.proofs.lemmas.Option.{same_Some}
-use Rattle.std.proofs.lemmas.List.{append_cancel_left}
-use Rattle.std.specs.List.{AllByRecursion}
-use Rattle.net_values.proofs.BoolLemmas.{clash}
+use Rattle.std.proofs.Common.{◌≡◌, ◌≤◌, ◌+◌, ◌∙◌, ℕ, suc, Bool, true, false, cond, nat_eq, length, List, [], ◌∷◌, Option, Some, None, refl, sym, ap, subst, arith}
 use Rattle.net_values.specs.declared.mac.Mac.{Mac}
 use Rattle.net_base.specs.declared.plan.Plan.{Plan}
 use Rattle.net_base.specs.declared.plan.places.EdgeId.{EdgeId}
 use Rattle.net_base.specs.declared.plan.places.ServiceId.{ServiceId}
 use Rattle.net_base.specs.declared.plan.places.WireId.{WireId}
 use Rattle.net_base.specs.declared.plan.wire_plan.WirePlan.{WirePlan}
-use Rattle.net_base.specs.plan.Accepted.{IsChecked, IsWireOf}
-use Rattle.net_base.specs.plan.Paths.{joins, mate_on}
+use Rattle.net_base.specs.plan.Accepted.{IsChecked}
+use Rattle.net_base.specs.plan.Paths.{mate_on}
 use Rattle.net_base.specs.plan.Places.{wire_row}
-use Rattle.net_base.proofs.CommonLemmas.{same_row}
-use Rattle.net_base.proofs.PathLemmas.{joins_turned}
 use Rattle.hvpls_spokes.specs.declared.edge_role.Role.{Role}
-use Rattle.hvpls_spokes.specs.declared.edge_role.Role.TheVariants as role
 use Rattle.hvpls_spokes.specs.declared.port.Port.{Port}
 use Rattle.hvpls_spokes.specs.declared.port.Port.TheVariants as port
 use Rattle.hvpls_spokes.specs.Port.{ports_of}
 use Rattle.hvpls_spokes.specs.Role as roles
 use Rattle.mac_withdraw.specs.Passing.{is_passed_to}
 use Rattle.mac_withdraw.specs.Pieces.{pieces_of}
-use Rattle.ldp_grammar.specs.declared.message.Message.{Message}
-use Rattle.ldp_grammar.specs.declared.message.Message.TheVariants.{AddressWithdraw, LabelMapping, LabelRelease, LabelWithdraw, Notification}
 use Rattle.ldp_grammar.specs.declared.status_code.StatusCode.{StatusCode}
 use Rattle.pw_tlvs.specs.declared.point.Point.{Point}
 use Rattle.pw_tlvs.specs.declared.pw_fec.PwFec.{PwFec}
@@ -36,15 +27,14 @@ use Rattle.edge_model.specs.Across.{end_beside, end_beyond, mate_of}
 use Rattle.edge_model.specs.Clear.{clears_at, clears_by, clears_wire, hears_mac_withdraw, passes_on, tells_at, tells_by, withdrawing_at}
 use Rattle.edge_model.specs.declared.effect.Effect.{Effect}
 use Rattle.edge_model.specs.declared.end_place.EndPlace.{EndPlace}
-use Rattle.edge_model.specs.EndPlaces.{end_named, end_places, is_at, is_terminal}
+use Rattle.edge_model.specs.EndPlaces.{end_places, is_at, is_terminal}
 use Rattle.edge_model.specs.Ends.{wire_end}
 use Rattle.edge_model.specs.Frame.{copies}
-use Rattle.edge_model.specs.Hear.{acts_on}
 use Rattle.edge_model.specs.Mend.{mends, port_of_wire}
 use Rattle.edge_model.specs.Session.{says}
 use Rattle.edge_model.specs.Signal.{end_of_fec, hears_mapping, hears_release, hears_status, hears_withdraw, maps_to, releases_label, takes_content, with_end_changed, with_named, with_released}
 use Rattle.edge_model.specs.State.{EdgeState, end_at, with_addresses, with_end}
-use Rattle.edge_model.specs.Withdraw.{tells_piece, tells_pieces}
+use Rattle.edge_model.specs.Withdraw.{tells_pieces}
 use Rattle.edge_model.specs.Work.{Work, changes}
 use Rattle.edge_model.proofs.WalkLemmas.{named_alone}
 use Rattle.network_model.specs.Absorb.{taken_all}
@@ -52,7 +42,7 @@ use Rattle.flight_laws.proofs.MendedRunLemmas.{IsMendedAt}
 use Rattle.flight_laws.proofs.PassingLemmas.{wire_end_is}
 use Rattle.flight_laws.proofs.PlaceLemmas.{IsEndOf, find_holds, places_are}
 use Rattle.flight_laws.proofs.WorksLemmas.{changed_edge}
-use Rattle.rest_laws.specs.Levels.{Saying, Binds, Withdraws, Releases, States, Clears}
+use Rattle.rest_laws.specs.Levels.{Saying, Releases, Clears}
 use Rattle.rest_laws.proofs.BindLemmas.{HoldsOther}
 use Rattle.rest_laws.proofs.ClearLemmas.{IsClearing, found_clears, ports_clear, put_mended}
 use Rattle.rest_laws.proofs.DueLemmas.{PutsMore}
@@ -267,8 +257,11 @@ module _ (plan : Plan) (checked : IsChecked plan) (me : EdgeId) (q : EndPlace) (
       begun = changes (withdrawing_at service addresses from) work
 
       quiet : Passes begun
-      quiet = (subst (λ (es : List Effect). Walks plan me es begun.effects (λ cost. clear_cost plan me cost q q_is.row)) (changed_effects (withdrawing_at service addresses from) work)
-          (walks_not plan me begun.effects (λ cost. clear_cost plan me cost q q_is.row)), forgets service from)
+      quiet = (
+        subst (λ (es : List Effect). Walks plan me es begun.effects (λ cost. clear_cost plan me cost q q_is.row)) (changed_effects (withdrawing_at service addresses from) work)
+            (walks_not plan me begun.effects (λ cost. clear_cost plan me cost q q_is.row)),
+        forgets service from,
+      )
 
       begun_me : begun.edge.me ≡ me
       begun_me = (forgets service from).put.me ∙ mended.me
@@ -276,10 +269,10 @@ module _ (plan : Plan) (checked : IsChecked plan) (me : EdgeId) (q : EndPlace) (
       goes : (r : Role) → Passes (copies (is_passed_to r (ports_of plan service me) from) (tells_at plan taken_all addresses) 0 (ports_of plan service me) begun)
       goes r = (
         subst (λ (es : List Effect). Walks plan me es (copies (is_passed_to r (ports_of plan service me) from) (tells_at plan taken_all addresses) 0 (ports_of plan service me) begun).effects (λ cost. clear_cost plan me cost q q_is.row))
-        (changed_effects (withdrawing_at service addresses from) work)
-        (walks_wider plan me begun.effects (copies (is_passed_to r (ports_of plan service me) from) (tells_at plan taken_all addresses) 0 (ports_of plan service me) begun).effects
-        (λ cost. ports_cost plan me cost (ports_of plan service me)) (λ cost. clear_cost plan me cost q q_is.row) (terminal_cost terminal)
-        (ports_walk (is_passed_to r (ports_of plan service me) from) 0 (ports_of plan service me) begun (forgets service from))),
+            (changed_effects (withdrawing_at service addresses from) work)
+            (walks_wider plan me begun.effects (copies (is_passed_to r (ports_of plan service me) from) (tells_at plan taken_all addresses) 0 (ports_of plan service me) begun).effects
+            (λ cost. ports_cost plan me cost (ports_of plan service me)) (λ cost. clear_cost plan me cost q q_is.row) (terminal_cost terminal)
+            (ports_walk (is_passed_to r (ports_of plan service me) from) 0 (ports_of plan service me) begun (forgets service from))),
         ports_clear plan me may work mended.me addresses (is_passed_to r (ports_of plan service me) from) 0 (ports_of plan service me) (λ k y at is. one_clears y) begun (forgets service from),
       )
 
@@ -315,7 +308,7 @@ module _ (plan : Plan) (checked : IsChecked plan) (me : EdgeId) (q : EndPlace) (
           (at_port (sym q_is.terminal ∙ terminal) (port_of_wire plan work.edge q.wire q_is.row))
       by false switching = subst (λ (o : Option EndPlace). Passes (tells_by taken_all addresses o work)) (sym beyond_is) (
         walks_wider plan me work.effects (tells_by taken_all addresses beyond work).effects (λ cost. found_cost cost beyond) (λ cost. clear_cost plan me cost q q_is.row) (switching_cost (sym q_is.terminal ∙ switching))
-        (found_walk beyond (λ place is. ends_there (mate_on q_is.row.path me.0 q.peer.0) place is) work),
+            (found_walk beyond (λ place is. ends_there (mate_on q_is.row.path me.0 q.peer.0) place is) work),
         found_clears plan me may work mended.me addresses beyond (λ place is. (ends_there (mate_on q_is.row.path me.0 q.peer.0) place is, refl)) work begins,
       )
 

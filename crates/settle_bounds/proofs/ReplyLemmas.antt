@@ -1,5 +1,5 @@
 -- What a session replies is worth one for each message: two at most.
-use Rattle.std.proofs.Common.{◌≡◌, ◌≤◌, ◌<◌, ◌+◌, ◌^◌, ◌++◌, ◌∙◌, ◌⊎◌, ℕ, suc, Bool, true, false, cond, not, nat_eq, List, [], ◌∷◌, Option, Some, None, length, refl, sym, ap, subst, append_assoc, arith, zero-add}
+use Rattle.std.proofs.Common.{◌≡◌, ◌≤◌, ◌<◌, ◌+◌, ◌^◌, ◌++◌, ◌∙◌, ℕ, suc, Bool, true, false, cond, List, [], ◌∷◌, Option, Some, None, length, refl, sym, ap, subst, append_assoc, arith, zero-add}
 use Rattle.std.specs.List.{AllByRecursion}
 use Rattle.net_base.specs.declared.plan.Plan.{Plan}
 use Rattle.net_base.specs.declared.plan.places.EdgeId.{EdgeId}
@@ -7,7 +7,6 @@ use Rattle.net_base.specs.declared.trace.state_name.Reason.{Reason}
 use Rattle.net_base.specs.declared.trace.state_name.Reason.TheVariants as reason
 use Rattle.net_base.specs.declared.trace.state_name.StateName.TheVariants as state
 use Rattle.net_base.specs.plan.Accepted.{IsChecked}
-use Rattle.ldp_grammar.specs.declared.message.Message.{Message}
 use Rattle.ldp_grammar.specs.Written.{written}
 use Rattle.session_core.specs.declared.peers.Peers.{Peers}
 use Rattle.session_core.specs.declared.reply.Reply.{Reply}
@@ -16,18 +15,17 @@ use Rattle.session_core.specs.Messages.{message_of}
 use Rattle.session_core.specs.Phase.{Phase}
 use Rattle.session_core.specs.Session.{phase_name}
 use Rattle.session_core.specs.Table.{SessionEvent, Outcome, Stay, Goes, Ends, outcome_of}
-use Rattle.pw_messages.specs.Sender.{following, platform_of}
+use Rattle.pw_messages.specs.Sender.{platform_of}
 use Rattle.pw_messages.proofs.CommonLemmas.{following_small}
 use Rattle.edge_model.specs.declared.effect.Effect.{Effect}
 use Rattle.edge_model.specs.declared.effect.Effect.TheVariants as effect
-use Rattle.edge_model.specs.Put.{Spoken, having_spoken, message_octets_of, octets_of, put_octets, put_replies, put_reply_to, puts_on, with_spoken}
+use Rattle.edge_model.specs.Put.{Spoken, having_spoken, octets_of, put_octets, put_replies, put_reply_to, puts_on, with_spoken}
 use Rattle.edge_model.specs.Session.{clears_ends, comes_of, ends, happens, happens_to, happens_with_ends, is_same_phase, losing_ends, tells_change, with_session}
 use Rattle.edge_model.specs.State.{EdgeState, Peering, has_end, with_ends_beside, with_kept, with_peering}
 use Rattle.edge_model.specs.Work.{Work, changes, gives, puts}
 use Rattle.network_model.specs.Absorb.{taken_all}
 use Rattle.flight_laws.specs.Ends.{ends_at}
 use Rattle.flight_laws.specs.Messages.{IsSaidAcross}
-use Rattle.flight_laws.proofs.WorksLemmas.{changed_edge}
 use Rattle.quiet_laws.proofs.ToldLemmas.{AreTold, IsPlainOutcome, Put, Speaks, TellsMore, moved_stands, told_joined}
 use Rattle.rest_laws.proofs.PutLemmas.{changed_effects, put_effects}
 use Rattle.settle_bounds.specs.Worth.{message_worth}
@@ -187,7 +185,6 @@ module _ (plan : Plan) (checked : IsChecked plan) (edges : ℕ → EdgeState) (m
 
       put : Spoken
       put = put_replies taken_all peer replies moved
-
 
       replied : RepliesPut replies moved put
       replied = replies_put replies now moved (moved_stands peer now work) (record { peers = plain.0; fit = speaks.fit; low = speaks.low }) plain.1

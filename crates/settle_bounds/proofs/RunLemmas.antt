@@ -1,10 +1,9 @@
 -- In every run each next delivery makes the bound fall.
-use Rattle.std.proofs.Common.{◌≡◌, ◌≤◌, ◌<◌, ◌+◌, ◌-◌, ◌++◌, ◌||◌, ◌&&◌, ◌∙◌, ◌==◌, ◌⊎◌, ℕ, zero, suc, Bool, true, false, cond, not, nat_eq, List, [], ◌∷◌, Option, Some, None, option_map, slice_get, length, drop, take, append_assoc, refl, sym, ap, subst, inl, inr, ⊎_elim, arith}
+use Rattle.std.proofs.Common.{◌≡◌, ◌≤◌, ◌<◌, ◌+◌, ◌-◌, ◌++◌, ◌||◌, ◌∙◌, ◌==◌, ◌⊎◌, ℕ, zero, suc, Bool, true, false, cond, not, nat_eq, List, [], ◌∷◌, Option, Some, None, slice_get, length, drop, take, append_assoc, refl, sym, ap, subst, inr, ⊎_elim, arith}
 use Rattle.std.proofs.lemmas.Bool.Decides.{nat_tests}
 use Rattle.std.proofs.lemmas.List.{length-append, length-drop, take-append-drop}
-use Rattle.std.proofs.lemmas.Option.{same_Some}
-use Rattle.net_values.proofs.BoolLemmas.{clash, first_holds, second_holds}
-use Rattle.net_values.proofs.NumberLemmas.{apart_back, same_number}
+use Rattle.net_values.proofs.BoolLemmas.{clash, second_holds}
+use Rattle.net_values.proofs.NumberLemmas.{apart_back}
 use Rattle.net_base.specs.declared.plan.Plan.{Plan}
 use Rattle.net_base.specs.declared.plan.edge_plan.EdgePlan.{EdgePlan}
 use Rattle.net_base.specs.declared.plan.places.EdgeId.{EdgeId}
@@ -30,13 +29,12 @@ use Rattle.edge_model.proofs.HeldLemmas.{clears_keep, ended_gone}
 use Rattle.edge_model.proofs.SignalLemmas.{ended_signals, hears_signals, mends_signals}
 use Rattle.network_model.specs.Absorb.{absorb, begin_at, idle, taken_all}
 use Rattle.network_model.specs.Connection.{delivering, hearing_work, is_deliverable, is_drained_pipe, losing}
-use Rattle.network_model.specs.Delivery.{delivery_of, first_pair, most_octets, next_delivery}
 use Rattle.network_model.specs.State.{NetworkState, stands, with_edge, with_pipe}
 use Rattle.network_model.specs.Step.{step}
 use Rattle.flight_laws.specs.Across.{IsMappingTaken, TakesAll}
 use Rattle.flight_laws.specs.Ends.{IsOrdered, WorksOn, ends_at}
 use Rattle.flight_laws.specs.Facts.{flight}
-use Rattle.flight_laws.specs.Laws.{AreOnWay, BothStand, IsRun, network_after}
+use Rattle.flight_laws.specs.Laws.{AreOnWay, IsRun, network_after}
 use Rattle.flight_laws.specs.Messages.{AreSaid, IsSaidAcross, octets_of_all}
 use Rattle.flight_laws.specs.Pair.{AreFit, ArePaired}
 use Rattle.flight_laws.specs.Rules.{AllMessages}
@@ -58,15 +56,12 @@ use Rattle.flight_laws.proofs.SettleLemmas.{edge_there}
 use Rattle.flight_laws.proofs.SteadyLemmas.{steady_rows}
 use Rattle.flight_laws.proofs.StayLemmas.{deliveries_end_none}
 use Rattle.flight_laws.proofs.WorksLemmas.{works_begin, works_kept, works_steady}
-use Rattle.rest_laws.specs.Rest.{delivers}
-use Rattle.rest_laws.proofs.RestLemmas.{next_delivers}
-use Rattle.quiet_laws.specs.Measure.{AreOnWays, phase_rank}
+use Rattle.quiet_laws.specs.Measure.{AreOnWays}
 use Rattle.quiet_laws.proofs.RunLemmas.{fits_of, messages_of, ways_of}
-use Rattle.quiet_laws.proofs.ToldLemmas.{IsPlainOutcome, MovesOn, Telling, TellsMore, event_on, moves_not, moves_then, telling_steady, tells_not, works_standing}
+use Rattle.quiet_laws.proofs.ToldLemmas.{IsPlainOutcome, MovesOn, Telling, event_on, moves_not, moves_then, telling_steady, tells_not, works_standing}
 use Rattle.settle_bounds.specs.Bound.{allowed, bound, end_worth, fall_cost, flight_worth, lone_worth, may_fall, messages_worth, phase_worth, rise_cost}
 use Rattle.settle_bounds.specs.Worth.{mend_cost, message_worth}
 use Rattle.settle_bounds.proofs.EventLemmas.{fall_like, fall_puts, mending_pays, next_me}
-use Rattle.settle_bounds.proofs.FallLemmas.{Falls}
 use Rattle.settle_bounds.proofs.HearLemmas.{worth_some}
 use Rattle.settle_bounds.proofs.HeardLemmas.{Fell, HasFallen, fallen_all, left_worth, whole_fall}
 use Rattle.settle_bounds.proofs.NetworkLemmas.{HasWorked, bound_falls, worth_left}

@@ -4,7 +4,7 @@ use Rattle.std.proofs.lemmas.Bool.{eqb-true}
 use Rattle.std.proofs.lemmas.Bool.Decides.{nat_tests}
 use Rattle.std.proofs.lemmas.Option.{same_Some}
 use Rattle.std.specs.List.{AllByRecursion}
-use Rattle.net_values.proofs.BoolLemmas.{clash, first_holds, second_holds}
+use Rattle.net_values.proofs.BoolLemmas.{clash, first_holds}
 use Rattle.net_base.specs.declared.plan.Plan.{Plan}
 use Rattle.net_base.specs.declared.plan.places.EdgeId.{EdgeId}
 use Rattle.net_base.specs.declared.plan.places.ServiceId.{ServiceId}
@@ -42,9 +42,9 @@ use Rattle.flight_laws.proofs.PlaceLemmas.{IsEndOf, places_are}
 use Rattle.flight_laws.proofs.WorksLemmas.{changed_edge}
 use Rattle.rest_laws.specs.Levels.{Saying, Binds, Withdraws, States, Clears, pw_id_of, saying_of}
 use Rattle.rest_laws.proofs.DueLemmas.{PutsMore, PutsWell}
-use Rattle.rest_laws.proofs.PutLemmas.{HasSaid, changed_effects, put_effects, says_puts}
+use Rattle.rest_laws.proofs.PutLemmas.{changed_effects, put_effects, says_puts}
 use Rattle.rest_laws.proofs.StillLemmas.{downs_put, forgets_put}
-use Rattle.settle_bounds.specs.Worth.{ends_sum, end_cost, gate, larger, mend_cost, starts_spoke}
+use Rattle.settle_bounds.specs.Worth.{ends_sum, gate, larger, mend_cost, starts_spoke}
 
 -- ---- numbers
 
@@ -176,15 +176,18 @@ module _ (plan : Plan) (me : EdgeId) where
           more = effect.Said place.peer (message_octets_of kept message) ∷ [];
           joined = refl;
           slots = record { place = place; saying = saying } ∷ [];
-          are = (record {
-            here = here;
-            beside = refl;
-            message = message kept.next_id;
-            router = kept.session.peers.me;
-            spelled = refl;
-            says = says_it kept.next_id;
-            names = names kept.next_id;
-          }, tt);
+          are = (
+            record {
+              here = here;
+              beside = refl;
+              message = message kept.next_id;
+              router = kept.session.peers.me;
+              spelled = refl;
+              says = says_it kept.next_id;
+              names = names kept.next_id;
+            },
+            tt,
+          );
           few = λ cost. itself (cost place saying);
         }))
 
@@ -229,8 +232,8 @@ module _ (plan : Plan) (me : EdgeId) where
     under content None = quiet
     under content (Some label) = (
       walks_wider work.effects (says taken_all place.peer (mapping place.pw_id label content) (changes (advertising place label content) work)).work.effects (λ cost. cost place Binds) (labels place)
-      (λ cost. larger_second (cost place Withdraws) (cost place Binds))
-      (changed_walk (advertising place label content) place (mapping place.pw_id label content) Binds work here (λ id. refl) (λ id. refl)),
+          (λ cost. larger_second (cost place Withdraws) (cost place Binds))
+          (changed_walk (advertising place label content) place (mapping place.pw_id label content) Binds work here (λ id. refl) (λ id. refl)),
       said_me place (mapping place.pw_id label content) Binds (changes (advertising place label content) work) here (λ id. refl) (λ id. refl) ∙ (advertising_me place label content work ∙ at),
     )
 
@@ -242,8 +245,8 @@ module _ (plan : Plan) (me : EdgeId) where
     unless label content true = quiet
     unless label content false = (
       walks_wider work.effects (says taken_all place.peer (withdrawal place.pw_id label content) (changes (withdrawing place) work)).work.effects (λ cost. cost place Withdraws) (labels place)
-      (λ cost. larger_first (cost place Withdraws) (cost place Binds))
-      (changed_walk (withdrawing place) place (withdrawal place.pw_id label content) Withdraws work here (λ id. refl) (λ id. refl)),
+          (λ cost. larger_first (cost place Withdraws) (cost place Binds))
+          (changed_walk (withdrawing place) place (withdrawal place.pw_id label content) Withdraws work here (λ id. refl) (λ id. refl)),
       said_me place (withdrawal place.pw_id label content) Withdraws (changes (withdrawing place) work) here (λ id. refl) (λ id. refl) ∙ (withdrawing_me place work ∙ at),
     )
 
@@ -369,7 +372,7 @@ module _ (plan : Plan) (me : EdgeId) where
         → Walks plan me work.effects (cond b (tells_piece taken_all place [] work) (stays work)).work.effects (spoke_clears place) × Keeps was (cond b (tells_piece taken_all place [] work) (stays work)).work
     by true anew = (
       walks_wider work.effects (tells_piece taken_all place [] work).work.effects (λ cost. cost place Clears) (spoke_clears place)
-      (λ cost. same (cost place Clears) (starts_spoke me (wire_row plan place.wire)) (starts_here anew)) (piece_walk place [] work here).0,
+          (λ cost. same (cost place Clears) (starts_spoke me (wire_row plan place.wire)) (starts_here anew)) (piece_walk place [] work here).0,
       (piece_walk place [] work here).1 ∙ kept,
     )
     by false anew = (walks_not work.effects (spoke_clears place), kept)
@@ -383,8 +386,7 @@ module _ (plan : Plan) (me : EdgeId) where
   each_walk mend step Inv one [] all m inv = (walks_not m.work.effects (λ cost. 0), inv)
   each_walk mend step Inv one (place ∷ places) all m inv =
       let first = one place m.work all.0 inv in
-      let rest = each_walk mend step Inv one places all.1 (and_says m (mend place)) first.1 in
-      (
+      let rest = each_walk mend step Inv one places all.1 (and_says m (mend place)) first.1 in (
         walks_then m.work.effects (mend place m.work).work.effects (each_end mend places (and_says m (mend place))).work.effects (step place) (λ cost. ends_sum (λ place. step place cost) places) first.0 rest.0,
         rest.1,
       )

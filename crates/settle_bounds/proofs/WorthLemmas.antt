@@ -30,7 +30,7 @@ use Rattle.flight_laws.specs.Ends.{ends_at}
 use Rattle.flight_laws.proofs.PlaceLemmas.{IsEndOf, IsNamed, NamedEnd, end_of, named_is}
 use Rattle.flight_laws.proofs.SaidLemmas.{ready}
 use Rattle.flight_laws.proofs.SteadyLemmas.{end_small}
-use Rattle.rest_laws.specs.Levels.{Saying, Binds, Withdraws, Releases, States, Clears, is_above, is_higher, level, level_at, level_of, levels_end, pw_id_of, saying_of}
+use Rattle.rest_laws.specs.Levels.{Saying, Binds, Withdraws, Releases, States, Clears, is_above, is_higher, level, level_at, level_of, pw_id_of, saying_of}
 use Rattle.rest_laws.specs.Rises.{AreSaidAt, IsSaidAt, left_above}
 use Rattle.rest_laws.proofs.DueLemmas.{IsPutAt, PutsWell}
 use Rattle.quiet_laws.proofs.SpelledLemmas.{same_saying}
@@ -245,8 +245,7 @@ module _ (plan : Plan) (checked : IsChecked plan) (edges : ℕ → EdgeState) (m
       let pw_same : one.pw_id ≡ other.pw_id = same_number (sym says.names ∙ tells.names) in
       let named : end_named plan me one.peer here.row.pw_id ≡ end_named plan me other.peer there.row.pw_id =
       (λ i. end_named plan me (record { 0 = beside_same i }) ((sym here.pw_id ∙ (pw_same ∙ there.pw_id)) i)) in
-      let places : near.place ≡ far.place = same_Some near.place far.place (sym near.named ∙ (named ∙ far.named)) in
-      (
+      let places : near.place ≡ far.place = same_Some near.place far.place (sym near.named ∙ (named ∙ far.named)) in (
         ap (λ (x : WireId). x.0) (sym near.wire_is) ∙ (ap (λ (x : EndPlace). x.wire.0) places ∙ ap (λ (x : WireId). x.0) far.wire_is),
         (beside_same, same_one (sym says.says ∙ tells.says)),
       )

@@ -1,6 +1,6 @@
 -- A bound of the deliveries that are still to be made: what is on its way is worth so much, and so are the sessions that are still to come up,
 -- and those of which one end alone stands.
-use Rattle.std.specs.Prelude.{◌≡◌, ◌==◌, ◌+◌, ◌*◌, ◌&&◌, ℕ, suc, Bool, true, false, List, [], ◌∷◌, Option, Some, None, length, if◌then◌else◌}
+use Rattle.std.specs.Prelude.{◌==◌, ◌+◌, ℕ, suc, Bool, true, false, List, [], ◌∷◌, Option, Some, None, length, if◌then◌else◌}
 use Rattle.net_base.specs.declared.plan.Plan.{Plan}
 use Rattle.net_base.specs.declared.plan.places.EdgeId.{EdgeId}
 use Rattle.net_base.specs.plan.Places.{wire_row}
@@ -11,7 +11,7 @@ use Rattle.edge_model.specs.declared.end_place.EndPlace.{EndPlace}
 use Rattle.edge_model.specs.State.{EdgeState, Peering}
 use Rattle.network_model.specs.State.{NetworkState, stands}
 use Rattle.quiet_laws.specs.Measure.{sum_below}
-use Rattle.rest_laws.specs.Levels.{Saying, Binds, Withdraws, Releases, States, Clears}
+use Rattle.rest_laws.specs.Levels.{Saying, Binds, Withdraws}
 use Rattle.settle_bounds.specs.Worth.{gate, mend_cost, message_worth, worth_at}
 
 -- ---- sessions that come up, and that end
