@@ -12,6 +12,34 @@ circuit = [{ name = "c1", edge = "a", service = "s" }, { name = "c2", edge = "a"
 wire = [{ name = "m", service = "s", class = "mesh", path = ["a", "b"], pw_id = 1 }]
 "#;
 
+/// Two core edges with a mesh wire, and a spoke edge with a spoke to each.
+pub const SPOKES: &str = r#"
+version = 1
+edge = [{ name = "a", address = "10.0.0.1" }, { name = "b", address = "10.0.0.2" }, { name = "x", address = "10.0.0.3" }]
+service = [{ name = "s" }]
+circuit = [{ name = "ca", edge = "a", service = "s" }, { name = "cx", edge = "x", service = "s" }]
+wire = [{ name = "m", service = "s", class = "mesh", path = ["a", "b"], pw_id = 1 }, { name = "xa", service = "s", class = "spoke", path = ["x", "a"], pw_id = 2, priority = 10 }, { name = "xb", service = "s", class = "spoke", path = ["x", "b"], pw_id = 3, priority = 20 }]
+"#;
+
+/// Of `SPOKES`: a frame that leaves nowhere, over one spoke that is up at both ends, over two, and over none.
+pub static OVER_SPOKES: &[Row] = &[
+    // Exactly one: calm.
+    Row {
+        report: "vplsnet 1\nwire a m up\nwire b m up\nwire x xa up\nwire a xa up\n> frame cx ffffffffffff0200000000010800\nin cx 1 ffffffffffff0200000000010800\nend events=1 in=1 left=0 sent=0 dropped=0\n",
+        stop: Some(AuditStop::Once { line: 7 }),
+    },
+    // Two: not calm.
+    Row {
+        report: "vplsnet 1\nwire a m up\nwire b m up\nwire x xa up\nwire a xa up\nwire x xb up\nwire b xb up\n> frame cx ffffffffffff0200000000010800\nin cx 1 ffffffffffff0200000000010800\nend events=1 in=1 left=0 sent=0 dropped=0\n",
+        stop: None,
+    },
+    // One end of each: not calm.
+    Row {
+        report: "vplsnet 1\nwire a m up\nwire b m up\nwire x xa up\nwire b xb up\n> frame cx ffffffffffff0200000000010800\nin cx 1 ffffffffffff0200000000010800\nend events=1 in=1 left=0 sent=0 dropped=0\n",
+        stop: None,
+    },
+];
+
 /// What is seen of a flooded frame, with one thing other in each report.
 pub static ROWS: &[Row] = &[
     // Once at each other circuit.

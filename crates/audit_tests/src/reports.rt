@@ -48,6 +48,15 @@ fn frames_that_were_not_seen_exactly_once(rt: HostRuntime) {
 }
 
 #[test]
+fn a_spoke_edge_with_more_or_less_than_one_spoke(rt: HostRuntime) {
+    let alloc = rt.alloc();
+    let plan = plan(&rt, alloc, once_rows::SPOKES);
+    for row in once_rows::OVER_SPOKES {
+        is_told(&rt, alloc, &plan, row);
+    }
+}
+
+#[test]
 fn a_flooded_frame_of_a_bridge(rt: HostRuntime) {
     let alloc = rt.alloc();
     let plan = plan(&rt, alloc, BRIDGE);
