@@ -426,8 +426,8 @@ long_called around asked named limit called long sound = elim (met around asked 
 run_end : (asked : Asked) (scenario : Scenario) (captures : List (List (List ℕ))) (text : List ℕ) (network : Option NetLists) (outcome called : Outcome)
     → MakesRun asked scenario captures text network outcome
     → called ≡ outcome_by (whole_run scenario captures).stop → outcome ≡ called
-run_end asked scenario captures text network Done called makes is = sym (is ∙ sym (ap (λ (r : Ended). outcome_by r.stop) makes.is_run.ends))
-run_end asked scenario captures text network (Stopped stop) called makes is = sym (is ∙ sym (ap (λ (r : Ended). outcome_by r.stop) makes.is_run.ends))
+run_end asked scenario captures text network Done called makes is = sym (is ∙ sym (ap (λ (r : Ended). outcome_by r.stop) makes.is_run.is_run.ends))
+run_end asked scenario captures text network (Stopped stop) called makes is = sym (is ∙ sym (ap (λ (r : Ended). outcome_by r.stop) makes.is_run.is_run.ends))
 run_end asked scenario captures text network Usage called makes is = absurd makes
 run_end asked scenario captures text network ReadFault called makes is = absurd makes
 run_end asked scenario captures text network WriteFault called makes is = absurd makes

@@ -200,13 +200,13 @@ stopped_same (Audit file report) one other reason alike = refl
 -- the two runs come to the same
 same_end : (asked : Asked) (scenario : Scenario) (captures : List (List (List ℕ))) (text also : List ℕ) (network next : Option NetLists) (reason stop : Option NetStop)
     → (one : TellsRun asked scenario captures text network reason) → (other : TellsRun asked scenario captures also next stop) → ended one.left reason ≡ ended other.left stop
-same_end asked scenario captures text also network next reason stop one other = one.is_run.ends ∙ sym other.is_run.ends
+same_end asked scenario captures text also network next reason stop one other = one.is_run.is_run.ends ∙ sym other.is_run.is_run.ends
 
 are_alike : (asked : Asked) (scenario : Scenario) (captures : List (List (List ℕ))) (text also : List ℕ) (network next : Option NetLists) (reason stop : Option NetStop)
     → (one : TellsRun asked scenario captures text network reason) → (other : TellsRun asked scenario captures also next stop) → AreAlike one.left other.left
 are_alike asked scenario captures text also network next reason stop one other =
     let same : ended one.left reason ≡ ended other.left stop = same_end asked scenario captures text also network next reason stop one other in
-    record { plan = one.is_run.plan_is ∙ sym other.is_run.plan_is; state = ap (λ (e : Ended). e.state) same; trace = ap (λ (e : Ended). e.trace) same }
+    record { plan = one.is_run.is_run.plan_is ∙ sym other.is_run.is_run.plan_is; state = ap (λ (e : Ended). e.state) same; trace = ap (λ (e : Ended). e.trace) same }
 
 runs_same : (asked : Asked) (scenario : Scenario) (captures : List (List (List ℕ))) (text also : List ℕ) (network next : Option NetLists) (outcome ending : Outcome) → EndAlike outcome ending
     → MakesRun asked scenario captures text network outcome → MakesRun asked scenario captures also next ending → text ≡ also

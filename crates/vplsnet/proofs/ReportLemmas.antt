@@ -67,7 +67,7 @@ ends_by all done trace count (Some stop) are = ends_stopped trace count are.even
 pub typed_trace : (scenario : Scenario) (captures : List (List (List ℕ))) (left : NetLists) (reason : Option NetStop) → IsScenarioRun scenario captures left reason
     → All IsTypedEntry left.trace → length left.trace < 2 ^ 64 → IsTypedTrace left.trace (ending_by reason)
 typed_trace scenario captures left reason is typed few =
-    record { typed = typed; few = few; ends = ends_by (events_of scenario captures) is.done left.trace (length (network_seen left).under_way) reason is.are_done }
+    record { typed = typed; few = few; ends = ends_by (events_of scenario captures) is.is_run.done left.trace (length (network_seen left).under_way) reason is.is_run.are_done }
 
 -- ---- events count from one
 
@@ -100,20 +100,20 @@ good_run : (scenario : Scenario) (captures : List (List (List ℕ))) (left : Net
 good_run scenario captures left reason was is typed = record {
   trace = left.trace;
   told = report_told plan (replay_text left reason) left.trace (read_scenario_is was.bytes scenario was.is).plan.checked (was_sayable scenario was).names
-      (record { ending = ending_by reason; reported = reported; is = ap (λ (p : Plan). report p left.trace (ending_by reason)) (sym is.plan_is) });
-  is = subst (IsGoodTrace plan) (sym is.trace_is) (record { isolated = is.promises.isolated; split = is.promises.split; once = is.promises.seen_once });
+      (record { ending = ending_by reason; reported = reported; is = ap (λ (p : Plan). report p left.trace (ending_by reason)) (sym is.is_run.plan_is) });
+  is = subst (IsGoodTrace plan) (sym is.is_run.trace_is) (record { isolated = is.is_run.promises.isolated; split = is.is_run.promises.split; once = is.is_run.promises.seen_once });
 }
   where
     plan : Plan
     plan = scenario.plan
 
-    counts : All CountsFromOne is.done
-    counts = done_count (events_of scenario captures) is.done left.trace (length (network_seen left).under_way) reason is.are_done
+    counts : All CountsFromOne is.is_run.done
+    counts = done_count (events_of scenario captures) is.is_run.done left.trace (length (network_seen left).under_way) reason is.is_run.are_done
         (made_count plan captures scenario.commands (commands_count scenario was))
 
     reported : IsReported plan left.trace (ending_by reason)
-    reported = subst (λ (t : List Entry). IsReported plan t (ending_by reason)) (sym is.trace_is)
-        (reported_by plan is.done (ending_by reason) is.promises.told counts (subst (λ (t : List Entry). IsTypedTrace t (ending_by reason)) is.trace_is typed))
+    reported = subst (λ (t : List Entry). IsReported plan t (ending_by reason)) (sym is.is_run.trace_is)
+        (reported_by plan is.is_run.done (ending_by reason) is.is_run.promises.told counts (subst (λ (t : List Entry). IsTypedTrace t (ending_by reason)) is.is_run.trace_is typed))
 
 -- ---- the scenario of a report was read
 

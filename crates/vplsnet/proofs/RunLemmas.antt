@@ -32,6 +32,7 @@ use Rattle.quiet_laws.proofs.RunLemmas.{runs_rest_by_measure}
 use Rattle.report_laws.proofs.RunLemmas.{runs_tell}
 use Rattle.seen_laws.proofs.CalmLemmas.{run_calm}
 use Rattle.seen_laws.proofs.SourceLemmas.{runs_seen_once}
+use Rattle.spelling_laws.proofs.RunLemmas.{runs_spell_pdus}
 use Rattle.psn_net.specs.declared.net_stop.NetStop.{NetStop}
 use Rattle.psn_net.specs.Lists.{NetLists, network_seen}
 use Rattle.psn_net.specs.Runs.{AreDone, IsRunOf}
@@ -91,6 +92,7 @@ promises_kept plan events run = record {
   labels = λ before after joined. runs_keep_label_rule plan before (first before after joined);
   contents = λ before after joined. runs_keep_told_rule plan before (first before after joined);
   endings = runs_end_well plan events run;
+  spelled = runs_spell_pdus plan events run;
   told = runs_tell plan events run;
   seen_calm = λ before after joined service. run_calm plan before service (first before after joined);
   seen_once = runs_seen_once plan events run;
@@ -125,7 +127,9 @@ pub is_scenario_run : (scenario : Scenario) (captures : List (List (List ℕ))) 
     → All (IsPlanned scenario.plan) scenario.commands → All (All IsFrame) captures
     → HasRun scenario captures left reason → IsScenarioRun scenario captures left reason
 is_scenario_run scenario captures left reason checked planned short has =
-    is_run_over scenario.plan (events_of scenario captures) left reason checked (made_planned scenario.plan (empty_network scenario.plan) captures scenario.commands short planned) has
+    let events : All (IsEventOf scenario.plan) (events_of scenario captures) = made_planned scenario.plan (empty_network scenario.plan) captures scenario.commands short planned in
+    let over : IsRunOver scenario.plan (events_of scenario captures) left reason = is_run_over scenario.plan (events_of scenario captures) left reason checked events has in
+    record { is_run = over; settled = settle.settles_at_last scenario captures left reason (record { checked = checked; types = has.types; planned = events }) over }
 
 pub checked_as : (plan left : Plan) → left ≡ plan → IsChecked plan → IsChecked left
 checked_as plan left same checked = subst (λ (p : Plan). IsChecked p) (sym same) checked

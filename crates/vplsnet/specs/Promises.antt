@@ -39,6 +39,7 @@ use Rattle.seen_network.specs.Calm.{is_seen_calm}
 use Rattle.seen_network.specs.Once.{OnceSeen}
 use Rattle.seen_network.specs.Seen.{seen_in}
 use Rattle.settle_laws.specs.Laws.{CarriesWhereSound, ComesToCalm, IsCalmWhereSound, IsQuietAtRest, KeepsSound, KeepsSoundChoice}
+use Rattle.spelling_laws.specs.Laws.{SpellPdus}
 use Rattle.flight_laws.specs.Laws.{AgreesAfterFlight, AreSettled, BothStand, FollowsTable, IsStillBetween, IsUp, KeepsLabelRule, KeepsToldRule, network_after}
 use Rattle.vplsnet.specs.Settled.{SettlesAll, SettlesCalm}
 
@@ -164,6 +165,8 @@ pub record KeepsPromises (plan : Plan) (events : List Event) : Type 0 where
   pub contents : Throughout (KeepsToldRule plan) plan events
   -- no session ends because an edge refuses what another one says
   pub endings : TellGoodEnds (run plan events).entries
+  -- and each thing that an edge says is one whole PDU of one message
+  pub spelled : SpellPdus plan (run plan events).entries
   -- all that is told speaks of rows of the plan
   pub told : AllByRecursion (IsEntryOf plan) (run plan events).entries
   -- the entries alone show which services are calm, and that each frame which is seen to enter one and to be flooded there leaves once at each

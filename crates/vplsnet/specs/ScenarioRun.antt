@@ -8,6 +8,7 @@ use Rattle.psn_net.specs.Runs.{Ended}
 use Rattle.scenario_text.specs.declared.scenario.Scenario.{Scenario}
 use Rattle.command_run.specs.Made.{made}
 use Rattle.vplsnet.specs.RunOver.{HasRunOver, IsRunOver, run_of}
+use Rattle.vplsnet.specs.Settled.{SettlesAtLast}
 
 -- the events that the commands of a scenario make, where these are the frames of the captures that it plays
 abbrev pub events_of : Scenario → List (List (List ℕ)) → List Event
@@ -21,6 +22,7 @@ whole_run scenario captures = run_of scenario.plan (events_of scenario captures)
 abbrev pub HasRun : Scenario → List (List (List ℕ)) → NetLists → Option NetStop → Type 0
 HasRun scenario captures left reason = HasRunOver scenario.plan (events_of scenario captures) left reason
 
--- and every promise holds of the events that were done
-abbrev pub IsScenarioRun : Scenario → List (List (List ℕ)) → NetLists → Option NetStop → Type 0
-IsScenarioRun scenario captures left reason = IsRunOver scenario.plan (events_of scenario captures) left reason
+-- and every promise holds of the events that were done; where the scenario ends by `settle` often enough, nothing is on its way
+pub record IsScenarioRun (scenario : Scenario) (captures : List (List (List ℕ))) (left : NetLists) (reason : Option NetStop) : Type 0 where
+  pub is_run : IsRunOver scenario.plan (events_of scenario captures) left reason
+  pub settled : SettlesAtLast scenario captures left reason
