@@ -52,7 +52,7 @@ def opened(page: Any, width: int = 1280) -> Any:
     options = Options()
     options.binary_location = "/usr/bin/chromium"
     for word in ("--headless", "--no-sandbox", "--disable-gpu", "--hide-scrollbars", f"--window-size={width},900"):
-        options.add_argument(word)
+        options.add_argument(word)  # type: ignore[no-untyped-call]
     browser = webdriver.Chrome(service=Service("/usr/bin/chromedriver"), options=options)
     browser.get(f"file://{page}")
     return browser

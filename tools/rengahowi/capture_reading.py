@@ -94,7 +94,7 @@ class Reader:
 
     def records(self, file: BinaryIO, magic: bytes) -> Iterator[Packet]:
         """The packets of a file in the classic format."""
-        from dpkt import pcap  # type: ignore[import]
+        from dpkt import pcap
 
         head = pcap.FileHdr.__hdr_len__
         first = magic + file.read(head - 4)
@@ -130,7 +130,7 @@ class Reader:
 
     def blocks(self, file: BinaryIO) -> Iterator[Packet]:
         """The packets of a file in pcapng."""
-        from dpkt import pcapng  # type: ignore[import]
+        from dpkt import pcapng
 
         file.seek(0)
         order = "<"
@@ -156,7 +156,7 @@ class Reader:
 
     def add_interface(self, block: bytes, order: str) -> None:
         """A description of an interface."""
-        from dpkt import pcapng  # type: ignore[import]
+        from dpkt import pcapng
 
         layout = pcapng.InterfaceDescriptionBlockLE if order == "<" else pcapng.InterfaceDescriptionBlock
         size = struct.calcsize(layout.__hdr_fmt__[:-1])

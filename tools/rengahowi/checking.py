@@ -10,7 +10,7 @@ from .plan import is_address
 
 TYPE_CHECKING = False
 if TYPE_CHECKING:
-    from collections.abc import Iterable, Iterator
+    from collections.abc import Callable, Iterable, Iterator
     from typing import Any
 
     from .keys import Key
@@ -24,7 +24,7 @@ class Finding(NamedTuple):
     key itself, and what is right. A warning has no words of the program."""
 
     fault: str
-    path: tuple
+    path: tuple[Any, ...]
     within: int | None
     text: str
 
@@ -66,7 +66,8 @@ def is_in_range(key: Key, value: Any) -> bool:
         "mode": lambda: value in ("raw", "tagged"),
         "table": lambda: True,
     }
-    return bool(tests[key.kind]())
+    test: Callable[[], Any] = tests[key.kind]
+    return bool(test())
 
 
 def wide_numbers(value: Any, path: tuple[Any, ...] = ()) -> Iterator[Any]:

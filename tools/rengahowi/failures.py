@@ -28,8 +28,8 @@ class Case(NamedTuple):
 
     name: str
     kind: str
-    failure: tuple
-    mending: tuple
+    failure: tuple[str, ...]
+    mending: tuple[str, ...]
 
     @property
     def switches(self) -> list[str]:

@@ -270,7 +270,8 @@ class Run:
     def frame_of_packet(self, packet: str) -> str:
         """The number of the frame of a packet that is under way; 0 of a ping, and of a packet that a report of another make never sent."""
         sent = self.network.packets.get(packet)
-        return "0" if sent is None else sent[4]
+        origin: str = "0" if sent is None else sent[4]
+        return origin
 
     def enter(self, row: list[str]) -> None:
         """A frame enters."""

@@ -104,7 +104,7 @@ class Inner:
     def at(self, circuit: str, inner: bytes) -> bytes:
         """A frame as it leaves at a circuit."""
         tag = self.tags[circuit]
-        return inner if tag is None else inner[:12] + TAG + tag.to_bytes(2, "big") + inner[12:]
+        return inner if tag is None else inner[:12] + TAG + int(tag).to_bytes(2, "big") + inner[12:]
 
     def key(self, inner: bytes) -> bytes:
         """By what a frame is known again: its octets, without those that may fill it up; in a lab with cooked captures, which have no

@@ -13,6 +13,7 @@ if TYPE_CHECKING:
 
     from .findings import Findings
     from .lab_file import Lab, Row
+    from .tcp_streams import Half
 
 LDP = 646
 IPV4, MPLS, TAGGED = b"\x08\x00", b"\x88\x47", b"\x81\x00"
@@ -164,7 +165,7 @@ class Sessions:
             other = connection.ends[connection.ends[0] == end]
             yield Step(time, 5, "lose", end, other)
 
-    def talk(self, sender, receiver, put, heard) -> Iterator[Step]:
+    def talk(self, sender: str, receiver: str, put: Half, heard: Half) -> Iterator[Step]:
         """What a sender said and a receiver heard: each PDU as its first octet was put, each piece as it came."""
         whole = put if len(put.octets) >= len(heard.octets) else heard
         for first, last in pdus_in(bytes(whole.octets), self.address_of[sender]):

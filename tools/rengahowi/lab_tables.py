@@ -73,7 +73,7 @@ def asked_of(lab: Lab, table: Table, text: str) -> list[tuple[tuple[str, str], i
 
 def state_of(word: Any) -> str:
     """A state as a report has it."""
-    return word if word in STATES else "up" if str(word).lower() == "up" else DOWN
+    return str(word) if word in STATES else "up" if str(word).lower() == "up" else DOWN
 
 
 def nanoseconds_of(text: str) -> int:

@@ -15,7 +15,7 @@ ETHERNET = 1
 INBOUND, OUTBOUND = 1, 2
 
 
-def block(kind: int, body: Any) -> bytes:
+def block(kind: int, body: bytes) -> bytes:
     """A block: its type, its length twice, and its body, filled up to four octets."""
     body += bytes(-len(body) % 4)
     length = len(body) + 12

@@ -55,7 +55,7 @@ class Probes:
         """The octets of a frame, as they enter at its circuit."""
         tag = self.plan.circuits[frame.circuit]["tag"]
         to = BROADCAST if frame.to is None else self.station[frame.to]
-        return to + self.station[frame.circuit] + (TAG % tag if tag else "") + TYPE
+        return f"{to}{self.station[frame.circuit]}{TAG % tag if tag else ''}{TYPE}"
 
     def event(self, frame: Frame) -> str:
         """The event by which a frame enters."""

@@ -42,7 +42,8 @@ def reach_of(network: Network, service: str) -> Reach:
     key = "reach", service
     if key not in network.looked:
         network.looked[key] = Reach(network.shape.of[service], network.up_wires(service))
-    return network.looked[key]
+    found: Reach = network.looked[key]
+    return found
 
 
 def reached(plan: Plan, reach: Reach, sites: Sequence[str], circuit: str) -> list[str]:

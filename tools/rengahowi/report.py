@@ -63,7 +63,7 @@ class Entry:
 
     __slots__ = ("line", "kind", "words")
 
-    def __init__(self, line: int, kind: str, words: tuple) -> None:
+    def __init__(self, line: int, kind: str, words: tuple[Any, ...]) -> None:
         self.line, self.kind, self.words = line, kind, words
 
 
@@ -72,7 +72,7 @@ class Event:
 
     __slots__ = ("number", "line", "kind", "words", "text", "entries")
 
-    def __init__(self, number: int, line: int, kind: str, words: tuple, text: str) -> None:
+    def __init__(self, number: int, line: int, kind: str, words: tuple[Any, ...], text: str) -> None:
         self.number, self.line, self.kind, self.words, self.text = number, line, kind, words, text
         self.entries: list[Entry] = []
 
@@ -94,7 +94,7 @@ class Words:
         """A fault with its place."""
         return Fault(f"{self.path}, line {line}: {text}")
 
-    def read(self, line: int, kinds: tuple, text: str) -> tuple:
+    def read(self, line: int, kinds: tuple[str, ...], text: str) -> tuple[Any, ...]:
         """The words of a line behind its first one, by what each of them is: of a number the number."""
         words = text.split(" ")[1:]
         if len(words) != len(kinds) or not all(map(looks_right, kinds, words)):
@@ -106,7 +106,7 @@ class Words:
             raise self.bad_line(line, kinds, text)
         return tuple(int(word) if kind == "number" else word for kind, word in zip(kinds, words))
 
-    def bad_line(self, line: int, kinds: tuple, text: str) -> Fault:
+    def bad_line(self, line: int, kinds: tuple[str, ...], text: str) -> Fault:
         """What is wrong with a line whose words are not those of its kind."""
         words = text.split(" ")
         if len(words) != len(kinds) + 1:
@@ -137,7 +137,7 @@ class Words:
             and all(self.are_columns(kinds, 1, entries[kind]) for kind, kinds in self.entries.items())
         )
 
-    def are_columns(self, kinds: tuple, first: int, rows: list[list[str]]) -> bool:
+    def are_columns(self, kinds: tuple[str, ...], first: int, rows: list[list[str]]) -> bool:
         """Whether the words of lines of one kind, from a place on, are of these kinds."""
         if any(length != first + len(kinds) for length in set(map(len, rows))):
             return False
@@ -204,7 +204,7 @@ def written_anew(told: Entry | Event) -> list[str]:
     return [told.kind, *map(str, told.words)]
 
 
-def read_report(path: str | os.PathLike[str], plan: Plan, heads: tuple = (REPORT,)) -> Report:
+def read_report(path: str | os.PathLike[str], plan: Plan, heads: tuple[str, ...] = (REPORT,)) -> Report:
     """The report of a file, of a run over this plan; or a text of `switchover`, for who takes both."""
     lines = lines_of(path)
     if lines[0] == SWITCHOVER and SWITCHOVER not in heads:

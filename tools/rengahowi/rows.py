@@ -82,7 +82,7 @@ def tests_of(parts: Mapping[str, Part], wanted: Iterable[str]) -> Iterator[Compa
         for row, makes in part.rows.items():
             if not names or names & {name, label(name, row)}:
                 test = Compared()
-                test.row, test.label = makes, label(name, row)  # type: ignore[method-assign]
+                test.row, test.label = makes, label(name, row)
                 yield test
 
 

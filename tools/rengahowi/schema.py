@@ -10,7 +10,7 @@ from .keys import MOST_ROWS, NEWEST, OFFER, TABLES, allowed
 
 TYPE_CHECKING = False
 if TYPE_CHECKING:
-    from collections.abc import Iterator
+    from collections.abc import Callable, Iterator
     from typing import Any
 
     from .keys import Key
@@ -168,7 +168,8 @@ def faults(rule: Any, value: Any, whole: Any, path: tuple[Any, ...] = ()) -> Ite
         "uniqueItems": lambda it: not isinstance(value, list) or len(value) == len({repr(one) for one in value}),
         "required": lambda it: not isinstance(value, dict) or all(key in value for key in it),
     }
-    for word, test in tests.items():
+    for word in tests:
+        test: Callable[[Any], Any] = tests[word]
         if word in rule and not test(rule[word]):
             yield path
     yield from faults_inside(rule, value, whole, path)

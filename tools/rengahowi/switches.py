@@ -42,7 +42,7 @@ class Switches:
     def applies(self, kind: str, words: Sequence[Any]) -> bool | None:
         """Whether an event of these kinds changes something; None of another kind."""
         if kind == "circuit":
-            return self.on[words[0]] != (words[1] == "on")
+            return bool(self.on[words[0]] != (words[1] == "on"))
         if kind not in ("wire", "status", "priority"):
             return None
         edge, wire, value = words[0], self.plan.wires[words[1]], words[2]

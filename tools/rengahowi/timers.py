@@ -37,7 +37,7 @@ class Timers:
 
     def hold(self, end: Way) -> int:
         """The hold time of a session: the smaller one of both proposals (RFC 5036 section 3.5.3)."""
-        return min(self.plan.edges[edge]["keepalive"] for edge in end)
+        return min(int(self.plan.edges[edge]["keepalive"]) for edge in end)
 
     def third(self, end: Way) -> int:
         """How long an end puts nothing until it puts a KeepAlive."""

@@ -347,4 +347,4 @@ def aged(folder: pathlib.Path, _gone: set[str]) -> Iterator[Any]:
 def echoes_seen(call: Any, folder: pathlib.Path) -> list[Any]:
     """The types of the ICMP messages that tshark sees in a capture, by the call that `to-pcap` printed."""
     words = ["tshark", *shlex.split(call)[1:], "-Y", "mpls", "-T", "fields", "-e", "icmp.type"]
-    return run(words, folder, text=True).stdout.splitlines()
+    return list(run(words, folder, text=True).stdout.splitlines())

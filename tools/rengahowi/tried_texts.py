@@ -106,11 +106,11 @@ def event_tables(_folder: pathlib.Path, _gone: set[str]) -> Iterator[Any]:
 
 
 def types(folder: pathlib.Path, _gone: set[str]) -> Iterator[Any]:
-    """The types of all tools agree, as mypy reads them."""
+    """The types of all tools agree, as mypy reads them at its strictest."""
     mypy = shutil.which("mypy", path="/usr/bin") or shutil.which("mypy")
     if mypy is None:
         print("mypy is missing (Debian: mypy), and the types of the tools are not read")
         return
-    done = run([mypy, "--cache-dir", folder, "rengahowi", "check"], TOP / "tools", text=True)
+    done = run([mypy, "--strict", "--cache-dir", folder, "rengahowi", "check"], TOP / "tools", text=True)
     yield compare("types of tools/rengahowi and tools/check", [line for line in done.stdout.splitlines() if ": error:" in line], [])
     yield compare("mypy of tools/rengahowi", (done.returncode, done.stderr), (0, ""))

@@ -230,7 +230,7 @@ class Joining:
         for router, instance in service.members:
             wires = [wire for wire in instance.pseudowires if not wire.left_out] or [Pseudowire("", instance.line)]
             mtus += [(router.offered(instance, wire)["mtu"], router) for wire in wires]
-        mtu, router = max(mtus, key=lambda found: found[0].value)
+        mtu, router = max(mtus, key=lambda found: int(found[0].value))
         least, most = SERVICE_MTU
         service.row = {"name": self.names.give(service.name or f"vc_{self.any_pw_id(service)}"), "mtu": min(max(mtu.value, least), most)}
         if service.row["mtu"] != mtu.value:
