@@ -29,8 +29,8 @@ use Rattle.quiet_laws.specs.Laws.{SettlesAfter}
 use Rattle.quiet_laws.specs.Measure.{AreOnWays}
 use Rattle.quiet_laws.proofs.RunLemmas.{delivers_planned, fits_of, messages_of, ways_of}
 use Rattle.quiet_laws.proofs.SumLemmas.{same_sums}
-use Rattle.settle_bounds.specs.Bound.{bound, end_worth, fall_cost, flight_worth, messages_worth, rise_cost}
-use Rattle.settle_bounds.specs.Laws.{NextDeliveriesLower, RunsSettleByBound}
+use Rattle.settle_bounds.specs.Bound.{IsBound, bound, end_worth, fall_cost, flight_worth, messages_worth, rise_cost}
+use Rattle.settle_bounds.specs.Laws.{NextDeliveriesLower, RunsHaveBounds, RunsSettleByBound}
 use Rattle.settle_bounds.proofs.RunLemmas.{lowers}
 
 -- ---- by whichever messages
@@ -176,6 +176,22 @@ settles_after plan events run = record {
       by (Some event) is = absurd (over (length deliveries) (bound_of plan events run) (length (deliveries ++ event ∷ [])) (length-append deliveries (event ∷ []))
           (are_few plan (deliveries ++ event ∷ []) events run (next_more plan (network_after plan events) deliveries event next is)).few enough)
 
+-- no more next deliveries follow each other than the bound says
+pub next_within : (plan : Plan) (events : List Event) → IsRun plan events → (most : ℕ) → IsBound plan (network_after plan events) most → (deliveries : List Event)
+    → AreNext plan (network_after plan events) deliveries → length deliveries ≤ most
+next_within plan events run most has deliveries next =
+    subst (λ (n : ℕ). length deliveries ≤ n) (sym (has.is ∙ bound_same plan (network_after plan events) (run_ordered plan events run) has.messages has.on_way)) (are_few plan deliveries events run next).few
+
+pub runs_have_bounds : RunsHaveBounds
+runs_have_bounds plan events run = record {
+  most = bound_of plan events run;
+  is = record {
+    messages = messages_of plan (network_after plan events) (run_ordered plan events run);
+    on_way = ways_of plan (network_after plan events) (run_ordered plan events run);
+    is = refl;
+  };
+}
+
 pub runs_settle_by_bound : RunsSettleByBound
-runs_settle_by_bound plan events run messages ways =
-    subst (SettlesAfter plan events) (sym (bound_same plan (network_after plan events) (run_ordered plan events run) messages ways)) (settles_after plan events run)
+runs_settle_by_bound plan events run most has =
+    subst (SettlesAfter plan events) (sym (has.is ∙ bound_same plan (network_after plan events) (run_ordered plan events run) has.messages has.on_way)) (settles_after plan events run)

@@ -1,6 +1,6 @@
 -- A bound of the deliveries that are still to be made: what is on its way is worth so much, and so are the sessions that are still to come up,
 -- and those of which one end alone stands.
-use Rattle.std.specs.Prelude.{◌==◌, ◌+◌, ℕ, suc, Bool, true, false, List, [], ◌∷◌, Option, Some, None, length, if◌then◌else◌}
+use Rattle.std.specs.Prelude.{◌≡◌, ◌==◌, ◌+◌, ℕ, suc, Bool, true, false, List, [], ◌∷◌, Option, Some, None, length, if◌then◌else◌}
 use Rattle.net_base.specs.declared.plan.Plan.{Plan}
 use Rattle.net_base.specs.declared.plan.places.EdgeId.{EdgeId}
 use Rattle.net_base.specs.plan.Places.{wire_row}
@@ -10,7 +10,7 @@ use Rattle.edge_model.specs.Across.{mate_of}
 use Rattle.edge_model.specs.declared.end_place.EndPlace.{EndPlace}
 use Rattle.edge_model.specs.State.{EdgeState, Peering}
 use Rattle.network_model.specs.State.{NetworkState, stands}
-use Rattle.quiet_laws.specs.Measure.{sum_below}
+use Rattle.quiet_laws.specs.Measure.{AreOnWays, sum_below}
 use Rattle.rest_laws.specs.Levels.{Saying, Binds, Withdraws}
 use Rattle.settle_bounds.specs.Worth.{gate, mend_cost, message_worth, worth_at}
 
@@ -74,3 +74,13 @@ pair_worth plan network messages a b =
 -- so many deliveries at most
 abbrev pub bound : Plan → NetworkState → (ℕ → ℕ → List Message) → ℕ
 bound plan network messages = sum_below (λ a. sum_below (λ b. pair_worth plan network messages a b) (length plan.edges)) (length plan.edges)
+
+-- the bound of a network, by the messages that are on their way in it
+pub record IsBound (plan : Plan) (network : NetworkState) (most : ℕ) : Type 0 where
+  pub messages : ℕ → ℕ → List Message
+  pub on_way : AreOnWays plan network messages
+  pub is : most ≡ bound plan network messages
+
+pub record HasBound (plan : Plan) (network : NetworkState) : Type 0 where
+  pub most : ℕ
+  pub is : IsBound plan network most

@@ -4,4 +4,4 @@
 
 mod laws;
 
-pub use laws::{next_deliveries_lower, runs_settle_by_bound};
+pub use laws::{next_deliveries_lower, runs_have_bounds, runs_settle_by_bound};

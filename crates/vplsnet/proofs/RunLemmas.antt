@@ -29,6 +29,7 @@ use Rattle.address_laws.proofs.PointsLemmas.{runs_keep_points}
 use Rattle.move_laws.proofs.HealLemmas.{runs_heal_moves}
 use Rattle.settle_laws.proofs.RunLemmas.{deliveries_keep_choice, deliveries_keep_sound, runs_carry_sound, runs_come_to_calm, runs_rest_quiet, runs_settle_calm}
 use Rattle.quiet_laws.proofs.RunLemmas.{runs_rest_by_measure}
+use Rattle.settle_bounds.proofs.SettleLemmas.{runs_have_bounds}
 use Rattle.report_laws.proofs.RunLemmas.{runs_tell}
 use Rattle.seen_laws.proofs.CalmLemmas.{run_calm}
 use Rattle.seen_laws.proofs.SourceLemmas.{runs_seen_once}
@@ -89,6 +90,8 @@ promises_kept plan events run = record {
   rests = λ before after joined. runs_rest_by_measure plan before (first before after joined);
   settles = λ before after joined. settle.settles_all plan before;
   settles_calm = λ before after joined. settle.settles_calm plan before (first before after joined);
+  bounded = λ before after joined. runs_have_bounds plan before (first before after joined);
+  settles_by = λ before after joined. settle.settles_by_bound plan before (first before after joined);
   labels = λ before after joined. runs_keep_label_rule plan before (first before after joined);
   contents = λ before after joined. runs_keep_told_rule plan before (first before after joined);
   endings = runs_end_well plan events run;

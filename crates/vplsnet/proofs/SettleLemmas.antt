@@ -29,9 +29,10 @@ use Rattle.command_text.specs.declared.command.Command.TheVariants.{Settle}
 use Rattle.command_run.specs.Made.{captures_after, deliveries, event_and, made, made_by, turns}
 use Rattle.command_run.proofs.PlannedLemmas.{deliveries_planned}
 use Rattle.scenario_text.specs.declared.scenario.Scenario.{Scenario}
+use Rattle.settle_bounds.proofs.SettleLemmas.{next_within}
 use Rattle.vplsnet.specs.RunOver.{IsRunOver}
 use Rattle.vplsnet.specs.ScenarioRun.{events_of}
-use Rattle.vplsnet.specs.Settled.{HasSettled, NextWithin, SettlesAll, SettlesAtLast, SettlesCalm, settled_by}
+use Rattle.vplsnet.specs.Settled.{HasSettled, NextWithin, SettlesAll, SettlesAtLast, SettlesByBound, SettlesCalm, settled_by}
 
 -- what `settle` does are next deliveries
 are_next : (plan : Plan) (count : ℕ) (network : NetworkState) → AreNext plan network (deliveries plan count network)
@@ -154,3 +155,15 @@ settles_at_last scenario captures left None run over front most count none last 
     rests : next_delivery plan (network_after plan (settled_by plan before count)) ≡ None
     rests = ap (next_delivery plan) (after-append plan (empty_network plan) before (deliveries plan count (network_after plan before)))
         ∙ settled_none plan (network_after plan before) most count ends enough
+
+-- ---- by the bound
+
+pub settles_by_bound : (plan : Plan) (events : List Event) → IsRun plan events → SettlesByBound plan events
+settles_by_bound plan events run most has = record {
+  within = next_within plan events run most has;
+  settles = λ count enough. record { rests = rests count enough; calm = λ service labels. settled_calm plan events run count (rests count enough) service labels };
+}
+  where
+    rests : (count : ℕ) → most ≤ count → next_delivery plan (network_after plan (settled_by plan events count)) ≡ None
+    rests count enough = ap (next_delivery plan) (after-append plan (empty_network plan) events (deliveries plan count (network_after plan events)))
+        ∙ settled_none plan (network_after plan events) most count (next_within plan events run most has) enough

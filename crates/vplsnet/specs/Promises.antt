@@ -41,7 +41,8 @@ use Rattle.seen_network.specs.Seen.{seen_in}
 use Rattle.settle_laws.specs.Laws.{CarriesWhereSound, ComesToCalm, IsCalmWhereSound, IsQuietAtRest, KeepsSound, KeepsSoundChoice}
 use Rattle.spelling_laws.specs.Laws.{SpellPdus}
 use Rattle.flight_laws.specs.Laws.{AgreesAfterFlight, AreSettled, BothStand, FollowsTable, IsStillBetween, IsUp, KeepsLabelRule, KeepsToldRule, network_after}
-use Rattle.vplsnet.specs.Settled.{SettlesAll, SettlesCalm}
+use Rattle.settle_bounds.specs.Bound.{HasBound}
+use Rattle.vplsnet.specs.Settled.{SettlesAll, SettlesByBound, SettlesCalm}
 
 -- something holds of each state on the way of a run: before each event, and after the last one
 abbrev pub Throughout : (NetworkState → Type 0) → Plan → List Event → Type 0
@@ -158,6 +159,9 @@ pub record KeepsPromises (plan : Plan) (events : List Event) : Type 0 where
   pub rests : Throughout (RestsByMeasure plan) plan events
   pub settles : AtEachMoment (SettlesAll plan) events
   pub settles_calm : AtEachMoment (SettlesCalm plan) events
+  -- and so do as many as a second number says, small enough to plan by
+  pub bounded : Throughout (HasBound plan) plan events
+  pub settles_by : AtEachMoment (SettlesByBound plan) events
   -- wherever a label is named it was given before, and whoever owns it is the end that it is named with; one that is kept waits for the
   -- neighbour of that end, and so neither rests nor is free
   pub labels : Throughout (KeepsLabelRule plan) plan events

@@ -10,6 +10,7 @@ use Rattle.flight_laws.specs.Laws.{network_after}
 use Rattle.settle_laws.specs.Laws.{HasLabels}
 use Rattle.settle_laws.specs.Sound.{is_sound_service}
 use Rattle.rest_laws.specs.Rest.{AreNext, RestsWithin}
+use Rattle.settle_bounds.specs.Bound.{IsBound}
 use Rattle.psn_net.specs.declared.net_stop.NetStop.{NetStop}
 use Rattle.psn_net.specs.Lists.{NetLists, network_seen}
 use Rattle.command_text.specs.declared.command.Command.{Command}
@@ -51,3 +52,14 @@ pub record HasSettled (plan : Plan) (before after : NetworkState) : Type 0 where
 abbrev pub SettlesAtLast : Scenario → List (List (List ℕ)) → NetLists → Option NetStop → Type 0
 SettlesAtLast scenario captures left reason = (front : List Command) (most count : ℕ) → reason ≡ None → scenario.commands ≡ front ++ Settle count ∷ []
     → NextWithin scenario.plan (behind scenario captures front) most → most ≤ count → HasSettled scenario.plan (behind scenario captures front) (network_seen left)
+
+-- ---- by the bound of a network
+
+-- no more than so many next deliveries can follow each other, and as many leave nothing on its way, and calm what was sound
+pub record SettlesBy (plan : Plan) (events : List Event) (most : ℕ) : Type 0 where
+  pub within : NextWithin plan (network_after plan events) most
+  pub settles : (count : ℕ) → most ≤ count → HasSettled plan (network_after plan events) (network_after plan (settled_by plan events count))
+
+-- so it is with the bound
+abbrev pub SettlesByBound : Plan → List Event → Type 0
+SettlesByBound plan events = (most : ℕ) → IsBound plan (network_after plan events) most → SettlesBy plan events most
