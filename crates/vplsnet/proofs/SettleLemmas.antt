@@ -79,13 +79,13 @@ settled_none plan network most count ends enough = ⊎_elim (λ same. by (next_d
       absurd (too_many (length all) (length (all ++ event ∷ [])) same (length-append all (event ∷ [])) (ends (all ++ event ∷ []) (next_more plan network all event (are_next plan count network) is)))
 
 -- next deliveries are deliveries
-next_within : (plan : Plan) (network : NetworkState) (most : ℕ) → RestsWithin plan network most → NextWithin plan network most
-next_within plan network most ends events are = ends events (next_deliver plan network events are)
+rests_next : (plan : Plan) (network : NetworkState) (most : ℕ) → RestsWithin plan network most → NextWithin plan network most
+rests_next plan network most ends events are = ends events (next_deliver plan network events are)
 
 pub settles_all : (plan : Plan) (events : List Event) → SettlesAll plan events
 settles_all plan events most count ends enough =
     ap (next_delivery plan) (after-append plan (empty_network plan) events (deliveries plan count (network_after plan events)))
-    ∙ settled_none plan (network_after plan events) most count (next_within plan (network_after plan events) most ends) enough
+    ∙ settled_none plan (network_after plan events) most count (rests_next plan (network_after plan events) most ends) enough
 
 -- ---- and a service is calm exactly where it was sound
 
