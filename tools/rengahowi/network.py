@@ -30,6 +30,7 @@ class Pipe:
     def __init__(self) -> None:
         self.pdus: list[int] = []
         self.whole, self.heard = 0, 0
+        self.said: list[str] = []  # their octets
         self.kept: dict[int, str] = {}
         self.came: list[str] = []  # by the last delivery
 
@@ -38,6 +39,7 @@ class Pipe:
         if octets.startswith(ADDRESS_WITHDRAW, MESSAGE):
             self.kept[len(self.pdus)] = octets
         self.pdus.append(len(octets) // 2)
+        self.said.append(octets)
 
     def deliver(self, count: int) -> int:
         """Takes octets from the front, as many as there are at most, and answers how many PDUs are whole by that."""
@@ -49,13 +51,14 @@ class Pipe:
         self.came = [self.kept.pop(place) for place in range(before, self.whole) if place in self.kept] if self.kept else []
         if self.is_drained():
             self.pdus.clear()
+            self.said.clear()
             self.whole, self.heard = 0, 0
         return made
 
     def copy(self) -> Pipe:
         """A pipe with the same in it."""
         made = Pipe()
-        made.pdus, made.whole, made.heard, made.kept = self.pdus.copy(), self.whole, self.heard, self.kept.copy()
+        made.pdus, made.said, made.whole, made.heard, made.kept = self.pdus.copy(), self.said.copy(), self.whole, self.heard, self.kept.copy()
         return made
 
     def octets(self) -> int:

@@ -25,6 +25,7 @@ def text_of(summary: dict[str, Any]) -> str:
         pings(summary["pings"]),
         idle(summary["idle"]),
         drops(summary["drops"]),
+        rest(summary["rest"]),
         under_way(summary["under_way"]),
     ]
     return "\n\n".join("\n".join(part) for part in parts if part) + "\n"
@@ -187,6 +188,16 @@ def idle(rows: list[dict[str, Any]]) -> list[Any]:
 def drops(rows: list[dict[str, Any]]) -> list[Any]:
     """Drops by cause."""
     return ["Drops", *cut(f"  {row['cause']} at {row['edge']}: {row['count']}" for row in rows)] if rows else []
+
+
+def rest(found: dict[str, int] | None) -> list[str]:
+    """The longest stretch of deliveries that came to rest, beside the number by which each one of that beginning does."""
+    if found is None:
+        return []
+    text = f"Signalling came to rest within {counted(found['deliveries'], 'delivery', 'deliveries')} (events {found['from']} to {found['to']})"
+    if found["deliveries"] > found["bound"]:
+        return [f"{text}, and by proof it does within {found['bound']}: this is no report of a run over this plan"]
+    return [f"{text}; by proof it does within {found['bound']}"]
 
 
 def under_way(found: Any) -> list[Any]:

@@ -3,6 +3,7 @@
 from __future__ import annotations
 
 from .network import UP
+from .settle_bound import longest_rest
 from .sound import is_sound, used_wires, why_not_sound, without_label
 
 TYPE_CHECKING = False
@@ -35,6 +36,7 @@ def sum_up(plan: Plan, run: Run, first: int = 1) -> dict[Any, Any]:
         "pings": [ping_row(run, ping) for ping in run.pings.all if ping.event.number >= first],
         "idle": [{"event": event.number, "words": event.text, "line": event.line} for event in run.idle if event.number >= first],
         "drops": drop_rows(run, first),
+        "rest": rest_row(plan, run.report),
         "under_way": under_way(run.network),
     }
 
@@ -54,6 +56,12 @@ def discovery(run: Run, first: int) -> dict[str, Any]:
         else:
             rows["adjacencies"].append({"edge": words[0], "peer": words[1], "state": words[2], **place})
     return rows
+
+
+def rest_row(plan: Plan, report: Report) -> dict[str, int] | None:
+    """The longest stretch of deliveries that came to rest, and by how many at most it does so; None of a report without one."""
+    found = longest_rest(plan, report)
+    return None if found is None else {"from": found.first, "to": found.last, "deliveries": found.deliveries, "bound": found.bound}
 
 
 def event_from(report: Report, words: Any) -> int | None:

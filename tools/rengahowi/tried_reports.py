@@ -8,7 +8,9 @@ import shlex
 
 from . import headers, pcapng
 from .plan import read_plan
+from .report import read_report
 from .rows import Part, table
+from .settle_bound import Stretches
 from .tried_scenarios import HEAD, SECOND, WIRE, whole
 from .trying import PROGRAM, TOP, capture_seen, compare, driver, ladder_in, missing, rows_in, run, tool
 
@@ -173,6 +175,37 @@ def sparse(folder: pathlib.Path) -> Iterator[bool]:
     yield compare("to-pcap of a sparse report", tool("to-pcap", plan, path, folder / "sparse.pcapng")[0], 0)
 
 
+def rests(_folder: pathlib.Path) -> Iterator[bool]:
+    """By how many deliveries signalling comes to rest at most, by hand: once two neighbours are connected their first Initialization is worth 1,
+    and their sessions 6 and 4; each edge may say a mapping to the other one, and a status at each of its ends. A status is worth 1, since no
+    edge of these plans moves, and a mapping 1 and the statuses of the edge that hears it."""
+    for name, found, pairs, ends in (("frames-cross", (2, 5, 4), 1, 1), ("full-mesh", (4, 15, 12), 3, 2)):
+        bound = pairs * (1 + 6 + 4 + 2 * (ends + (1 + ends)))
+        rest = dict(zip(("from", "to", "deliveries"), found), bound=bound)
+        yield compare(f"{name}, rest", summed(name)["rest"], rest)
+        said = tool("check-scenario", EXAMPLES / f"{name}.toml")[1].splitlines()[-1]
+        yield compare(f"check-scenario {name}, rest", said.partition(": ")[2], f"comes to rest within {bound} deliveries then, by proof")
+    over = []
+    for path in sorted(EXAMPLES.glob("*.toml")):
+        if not any(path.with_suffix(suffix).exists() for suffix in (".switchover", ".report")):
+            rest = summed(path.stem)["rest"]
+            over += [path.stem] if rest is not None and rest["deliveries"] > rest["bound"] else []
+    yield compare("examples that do not keep to the bound", over, [])
+
+
+def rest_met(folder: pathlib.Path) -> Iterator[bool]:
+    """Two edges that say a KeepAlive each need just as many deliveries as the bound has: one each way."""
+    path, report = folder / "met.toml", folder / "met.txt"
+    head = HEAD.replace('address = "10.0.0.1"', 'address = "10.0.0.1"\nkeepalive = 3')
+    path.write_text(whole(head, SECOND, WIRE, events=["connect a b", "settle 100", "tick", "settle 100"]), encoding="utf-8")
+    report.write_bytes(run([PROGRAM, "replay", path], folder).stdout)
+    plan = read_plan(path)
+    stretches, found = Stretches(plan, read_report(report, plan)), list[tuple[str, int]]()
+    for number, delivers in stretches.followed():
+        found += [(number, stretches.bound.of(stretches.network))] if delivers else []
+    yield compare("deliveries, each with the bound before it", found[-2:], [(7, 2), (8, 1)])
+
+
 summaries = Part(
     "What summaries of examples tell, counted by hand.",
     {
@@ -190,6 +223,8 @@ summaries = Part(
         "lab-unconnected": lab_unconnected,
         "lab-off": lab_off,
         "sparse": sparse,
+        "rest": rests,
+        "rest-met": rest_met,
     },
 )
 
