@@ -1,0 +1,9 @@
+pub mod CaseLemmas
+pub mod ChangeLemmas
+pub mod CountLemmas
+pub mod EdgeLemmas
+pub mod KnownLemmas
+pub mod LeftLemmas
+pub mod SiteLemmas
+pub mod TextLemmas
+pub mod VisitLemmas

@@ -1,0 +1,4 @@
+use Rattle.survey_text.proofs.over.Over.is_site.Given as goal
+
+abbrev pub ghost-is_site_at : goal.ghost-is_site_at
+ghost-is_site_at g a = g.before

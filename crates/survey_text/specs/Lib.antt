@@ -1,0 +1,4 @@
+pub mod Cases
+pub mod Relations
+pub mod Surveys
+pub mod Text

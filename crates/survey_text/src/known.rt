@@ -1,0 +1,82 @@
+//! What is known of a network before its cases, and of each fault alone.
+ghost use Rattle.std.specs.Prelude.{◌≡◌, ◌+◌, length, IfOk, OnOk, [], ◌∷◌};
+ghost use Rattle.network_model.specs.State.{NetworkState};
+ghost use Rattle.survey_reach.specs.Reach.{HasBefallen};
+ghost use Rattle.survey_text.specs.Surveys.{AreLeft, AreServices, AreShapes, IsFaultAt, IsKnown, IsOver};
+
+use crate::change::Change;
+use crate::over::Over;
+use crate::service::Service;
+use net_base::{List, NoMemory};
+use survey_laws::Fault;
+use survey_reach::{Reaching, Shape, all_faults};
+
+/// What a fault changes alone, service by service.
+#[derive(Drop)]
+pub struct Alone {
+    pub changes: Vec<Change>,
+}
+
+/// The services of a network, its faults, and what each of these changes alone, as far as it is known.
+#[derive(Drop)]
+pub struct Known {
+    pub services: Vec<Service>,
+    pub faults: List<Fault>,
+    pub alone: Vec<Alone>,
+}
+
+// The services over the ground, on which no fault has befallen.
+#[tactic(auto, using(crate::proofs::KnownLemmas::made_start, crate::proofs::KnownLemmas::own_shape))]
+fn services_of(
+    over: Over<'_>,
+    reaching: &mut Reaching,
+    shapes: Vec<Shape>,
+) -> Result<Vec<Service>, NoMemory>
+    ghost before: { NetworkState }
+    requires over { IsOver before over }
+    requires befallen { HasBefallen over.plan.now before [] reaching.old }
+    requires shapes { AreShapes over.plan.now shapes.items }
+    ensures { IfOk result (λ services. AreServices over.entry.plan.now before services.items) }
+{
+    let mut services = Vec::new(over.alloc);
+    for shape in shapes {
+        services.push(Service::new(over, reaching, shape)?)?;
+    }
+    Ok(services)
+}
+
+impl Known {
+    /// What is known before the first case.
+    pub fn new(
+        over: Over<'_>,
+        reaching: &mut Reaching,
+        shapes: Vec<Shape>,
+    ) -> Result<Known, NoMemory>
+        ghost before: { NetworkState }
+        requires over { IsOver before over }
+        requires shapes { AreShapes over.plan.now shapes.items }
+        ensures { IfOk result (IsKnown over.entry.plan.now before 0) }
+    {
+        reaching.befall(over.plan, over.ground, &[])?;
+        Ok(Known {
+            services: services_of(over, reaching, shapes)?,
+            faults: all_faults(over.alloc, over.plan, over.ground)?,
+            alone: Vec::new(over.alloc),
+        })
+    }
+
+    /// Keeps what one more fault changes alone.
+    pub fn keep(&mut self, over: Over<'_>, changes: &[Change], fault: Fault) -> Result<(), NoMemory>
+        ghost before: { NetworkState }
+        requires known { IsKnown over.plan.now before (length self.old.alone.items) self.old }
+        requires changes { AreLeft over.plan.now before (fault ∷ []) [] changes.now }
+        requires fault { IsFaultAt self.old (length self.old.alone.items) fault }
+        ensures known { OnOk result (IsKnown over.entry.plan.now before (length self.old.alone.items + 1) self.new) }
+        ensures services { self.new.services.items ≡ self.old.services.items }
+        ensures faults { self.new.faults ≡ self.old.faults }
+    {
+        let changes = Vec::from_slice(over.alloc, changes)?;
+        self.alone.push(Alone { changes })?;
+        Ok(())
+    }
+}
