@@ -1,0 +1,6 @@
+mod AnswerLemmas
+mod BaseLemmas
+mod CountLemmas
+mod EndLemmas
+mod LawLemmas
+mod ShapeLemmas
