@@ -1,4 +1,4 @@
-"""The program, proved or not yet: which of both there is, what a tool says of it, and what it makes of a stream."""
+"""The programs, each proved or not yet: which of both there is, what a tool says of it, and what one makes of a stream."""
 
 from __future__ import annotations
 
@@ -18,8 +18,9 @@ if TYPE_CHECKING:
 
 TOP = pathlib.Path(__file__).resolve().parent.parent.parent
 WHICH = TOP / "bin" / "which-program"
-PROVED = TOP / "crates" / "vplsnet_program" / "out" / "vplsnet_program"
-# What has an unproved program taken: its path, or any word for the one that bin/vplsnet builds.
+# The crates of the programs.
+VPLSNET, SURVEY = "vplsnet_program", "vplsnet_survey_program"
+# What has unproved programs taken: any word for those that bin/vplsnet builds, or the path of one of the first program.
 SWITCH = "VPLSNET_UNPROVED"
 # What stands in the place of NOTE in each page that is made while the program is not proved.
 NOTE, UNPROVED = "@NOTE@", '<b style="color: #8f1d14">not proved: this was made with an unproved program</b>'
@@ -36,64 +37,66 @@ class Program(NamedTuple):
     is_proved: bool
 
 
-# What was found first: a call of a tool keeps to one program, and says of it what there is to say once.
-FOUND: list[Program] = []
+# What was found first: a call of a tool keeps to one program of each crate, and says of them what there is to say once.
+FOUND: dict[str, Program] = {}
 
 
-def found(*, build: bool) -> Program | None:
-    """The program that there is; where there is none an unproved one is built, or None is the answer. It tells on standard error where
-    what it makes is not proved."""
-    if FOUND:
-        return FOUND[0]
+def found(of: str = VPLSNET, *, build: bool) -> Program | None:
+    """The program of a crate that there is; where there is none an unproved one is built, or None is the answer. It tells on standard error
+    where what it makes is not proved."""
+    if of in FOUND:
+        return FOUND[of]
     words = ["--for", str(os.getpid())] if build else ["--built"]
-    done = subprocess.run([WHICH, *words], stdin=subprocess.DEVNULL, stdout=subprocess.PIPE, check=False, text=True)
+    done = subprocess.run([WHICH, "--of", of, *words], stdin=subprocess.DEVNULL, stdout=subprocess.PIPE, check=False, text=True)
     if done.returncode == 1 and not build:
         return None
     if done.returncode != 0:
         raise Fault("there is no program")
     kind, _, path = done.stdout.rstrip("\n").partition(" ")
-    FOUND.append(Program(path, kind == "proved"))
-    if kind != "proved" and not os.environ.get(SWITCH):
+    if kind != "proved" and not os.environ.get(SWITCH) and all(program.is_proved for program in FOUND.values()):
         say("what this shows is not proved yet; bin/prove proves it")
-    return FOUND[0]
+    FOUND[of] = Program(path, kind == "proved")
+    return FOUND[of]
 
 
-def path() -> str:
-    """The path of the program, of which an unproved one is built where there is none."""
-    program = found(build=True)
+def path(of: str = VPLSNET) -> str:
+    """The path of the program of a crate, of which an unproved one is built where there is none."""
+    program = found(of, build=True)
     assert program is not None
     return program.path
 
 
-def is_proved() -> bool:
+def is_proved(of: str = VPLSNET) -> bool:
     """Whether the proved program of the sources as they stand is there, and would be run."""
-    return subprocess.run([WHICH, "--proved"], stdin=subprocess.DEVNULL, stdout=subprocess.DEVNULL, check=False).returncode == 0
+    return subprocess.run([WHICH, "--proved", "--of", of], stdin=subprocess.DEVNULL, stdout=subprocess.DEVNULL, check=False).returncode == 0
 
 
 def with_note(page: str) -> str:
-    """A page with the note at its place, or with nothing there where what it shows was made with the proved program, or with none."""
-    program = found(build=False)
-    return page.replace(NOTE, "" if program is None or program.is_proved else UNPROVED)
+    """A page with the note at its place, or with nothing there where what it shows was made with proved programs, or with none."""
+    found(build=False)
+    return page.replace(NOTE, "" if all(program.is_proved for program in FOUND.values()) else UNPROVED)
 
 
-def measured() -> str:
+def measured(of: str = VPLSNET) -> str:
     """The path of the program that a bench measures: of the proved one, be it there or not, but where the switch has another taken."""
-    return path() if os.environ.get(SWITCH) else str(PROVED)
+    return path(of) if os.environ.get(SWITCH) else str(TOP / "crates" / of / "out" / of)
 
 
-def require_proved() -> None:
-    """Has a check or a bench end here where the proved program is not there. With the switch it goes on with an unproved one, and so it
-    does where a source changes meanwhile; but it cannot end well then."""
-    if not is_proved():
-        if not os.environ.get(SWITCH):
-            raise SystemExit(f"{name()}: the program is not proved; bin/prove proves it ({SWITCH}=yes takes it as it is, and then nothing passes)")
-        path()
-    atexit.register(end_unproved)
+def require_proved(*of: str) -> None:
+    """Has a check or a bench end here where the proved programs of these crates (of `vplsnet_program`, where none is named) are not there.
+    With the switch it goes on with unproved ones, and so it does where a source changes meanwhile; but it cannot end well then."""
+    needed = of or (VPLSNET,)
+    for crate in needed:
+        if not is_proved(crate):
+            if not os.environ.get(SWITCH):
+                raise SystemExit(f"{name()}: the program is not proved; bin/prove proves it ({SWITCH}=yes takes it as it is, and then nothing passes)")
+            path(crate)
+    atexit.register(end_unproved, *needed)
 
 
-def end_unproved() -> None:
-    """Ends a check or a bench that was not made with the proved program, so that it does not pass."""
-    if is_proved():
+def end_unproved(*of: str) -> None:
+    """Ends a check or a bench that was not made with the proved programs of these crates, so that it does not pass."""
+    if all(map(is_proved, of)):
         return
     sys.stdout.flush()
     say("this was made with an unproved program, so it is no pass")

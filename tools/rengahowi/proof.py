@@ -1,4 +1,4 @@
-"""The proof of the program: every crate that it stands on, several beside each other, and then the program itself, which that builds."""
+"""The proof of the programs: every crate that they stand on, several beside each other, and then the programs themselves, which that builds."""
 
 from __future__ import annotations
 
@@ -13,12 +13,14 @@ from .command import say
 
 TYPE_CHECKING = False
 if TYPE_CHECKING:
+    from collections.abc import Callable, Iterable
     from typing import Any
 
 TOP = pathlib.Path(__file__).resolve().parent.parent.parent
 CRATES = TOP / "crates"
-NAME = "vplsnet_program"
-LOGS = CRATES / NAME / "out" / "build"
+# The programs of bin/, each with the words by which it is run once it is built.
+PROGRAMS: dict[str, list[str]] = {"vplsnet_program": ["decode", os.devnull], "vplsnet_survey_program": ["data/four.toml"]}
+LOGS = CRATES / "vplsnet_program" / "out" / "build"
 # What one prover may take of memory, in octets.
 ROOM = 4 << 30
 # How many processors one prover uses at most.
@@ -45,9 +47,9 @@ def programs() -> list[str]:
     return [name for name in layers() if (CRATES / name / "src" / "main.rt").exists()]
 
 
-def all_below(below: dict[str, list[str]], name: str) -> list[str]:
-    """A crate, and all that it stands on, each once."""
-    found = [name]
+def all_below(below: dict[str, list[str]], names: Iterable[str]) -> list[str]:
+    """These crates, and all that they stand on, each once."""
+    found = list(names)
     for it in found:
         found += [other for other in below[it] if other not in found]
     return found
@@ -79,8 +81,8 @@ class Crate:
         self.left = 1 if (CRATES / name / "out" / "rlib" / "stamp").exists() else self.size
 
     def start(self, jobs: int) -> None:
-        """Starts its prover: the program's own builds it too, and runs it on a stream without messages."""
-        words = ["rt", "run", "--", "decode", os.devnull] if self.name == NAME else ["rt", "lib", "--jobs", str(jobs)]
+        """Starts its prover: that of a program builds it too, and runs it."""
+        words = ["rt", "run", "--", *PROGRAMS[self.name]] if self.name in PROGRAMS else ["rt", "lib", "--jobs", str(jobs)]
         self.jobs = jobs
         with open(self.log, "wb") as out:
             self.prover = subprocess.Popen(words, cwd=CRATES / self.name, stdin=subprocess.DEVNULL, stdout=out, stderr=out)
@@ -110,7 +112,7 @@ class Proof:
 
     def __init__(self) -> None:
         below = layers()
-        self.crates = [Crate(name, below[name]) for name in all_below(below, NAME)]
+        self.crates = [Crate(name, below[name]) for name in all_below(below, PROGRAMS)]
         self.by_name = {crate.name: crate for crate in self.crates}
         self.slots, self.begun, self.told = slots(), time.monotonic(), 0.0
         self.share = sum(crate.left for crate in self.crates) / sum(crate.size for crate in self.crates)
@@ -170,9 +172,9 @@ class Proof:
             except subprocess.TimeoutExpired:
                 prover.kill()
 
-    def run(self) -> bool:
-        """Proves all crates, and answers whether all are proved."""
-        known = -1
+    def run(self, is_built: Callable[[str], object]) -> bool:
+        """Proves all crates, and answers whether all are proved. Of each program it is told once that is proved and built."""
+        known, built = -1, set[str]()
         while not all(crate.is_done for crate in self.crates):
             self.start_ready()
             done = sum(crate.is_done for crate in self.crates)
@@ -181,6 +183,10 @@ class Proof:
                 known = done
             time.sleep(LOOK)
             failed = [crate for crate in self.running() if crate.has_failed()]
+            for name in PROGRAMS:
+                if self.by_name[name].is_done and name not in built and self.by_name[name] not in failed:
+                    built.add(name)
+                    is_built(name)
             if failed:
                 sys.stderr.write(failed[0].log.read_text(encoding="utf-8", errors="replace"))
                 say(f"{failed[0].name} is not proved; {failed[0].log} has what was said")
