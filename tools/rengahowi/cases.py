@@ -80,6 +80,11 @@ class Base:
         path.write_text(self.spliced.with_events(events), encoding="utf-8")
         return replayed(path)
 
+    def set_up_text(self) -> str:
+        """A scenario that comes to what all cases begin with but for frames: of a script by the events that its lines came to."""
+        made = [line[2:] for line in self.report.lines if line.startswith("> ")] if self.script is not None else None
+        return self.spliced.with_events([*self.events, *self.probes.rest()] if made is None else made)
+
     def script_of(self, events: list[str]) -> str:
         """The text of the script with these events behind its own lines."""
         return "".join(f"{line}\n" for line in self.script.with_events(events)) if self.script is not None else ""

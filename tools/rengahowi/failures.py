@@ -1,4 +1,4 @@
-"""The failures of a plan, one after another or two at once: what brings each about, and what mends it."""
+"""The failures of a plan, one after another or several at once: what brings each about, and what mends it."""
 
 from __future__ import annotations
 
@@ -138,7 +138,13 @@ def silent_links(plan: Plan, network: Network) -> Iterator[Case]:
         yield case("silent", text, *mending_of(plan, text, up))
 
 
-def pairs_of(cases: Iterable[Case]) -> Iterator[Any]:
-    """Each two cases at once."""
-    for a, b in combinations(cases, 2):
-        yield Case(f"{a.name} + {b.name}", "pair", a.failure + b.failure, a.mending + b.mending)
+# The kind of a case of several failures, by how many they are.
+TOGETHER = {2: "pair", 3: "triple"}
+
+
+def together(cases: Iterable[Case], count: int) -> Iterator[Any]:
+    """Each two cases at once, or each three."""
+    for group in combinations(cases, count):
+        failure = tuple(event for case in group for event in case.failure)
+        mending = tuple(event for case in group for event in case.mending)
+        yield Case(" + ".join(case.name for case in group), TOGETHER[count], failure, mending)

@@ -16,7 +16,7 @@ BENCH = TOP / "bench"
 # These take a small size, and need the program alone.
 SMALL = (
     "audit", "chains", "decode", "frames", "hierarchy", "hub", "labels", "migrate", "moves", "pings", "play", "read-scenario",
-    "replay-broadcasts", "sessions", "set-up", "ticks", "worst",
+    "replay-broadcasts", "sessions", "set-up", "survey", "ticks", "worst",
 )
 # These need another program, which a proof makes first, or hours.
 OTHERS = {"configs", "hear", "learning", "proof-times", "refusals", "rehearse", "soak", "strength"}

@@ -1,5 +1,5 @@
 """The cases of a plan as one page for a browser: a matrix of cases and sites, whose cells open the run of their case event by event, and
-its ladder."""
+its ladder; and what a survey tells of them, as a matrix of failures by failures."""
 
 from __future__ import annotations
 
@@ -27,6 +27,7 @@ if TYPE_CHECKING:
     from .report import Event
 
 HERE = pathlib.Path(__file__).resolve().parent
+PAGE_SCRIPTS = ("unpacked.js", "what_if_settled.js")
 PAGE, LADDER, LADDER_SCRIPTS = HERE / "what_if.html", HERE / "ladder.html", ("unpacked.js", "ladder.js")
 # What stands before the lines of a case in its page, and what each event begins with.
 LEFT_OUT, BEGINS = "(what all cases begin with; between the events that follow are frames that all came once, which are left out)", b"\n> "
@@ -145,13 +146,27 @@ def part_of(base: Base, follower: Follower, found: dict[str, Any], ladders: list
             "begin": f"behind the set-up and the first frames, which are events 1 to {base.front.count(BEGINS)}",
         }),
     }
-    return {**found, "colours": shared["services"], "ladders": ladders, "shared": shared}
+    return {**settled_part(plan, found["scenario"], found["survey"]), **found, "ladders": ladders, "shared": shared}
+
+
+def settled_part(plan: Plan, scenario: str, survey: dict[str, Any]) -> dict[str, Any]:
+    """What the page has of a scenario of which nothing was tried yet, but what a survey tells of it."""
+    return {
+        "scenario": scenario,
+        "services": {name: plan.circuits_of(name) for name in plan.services},
+        "edges": {name: row["edge"] for name, row in plan.circuits.items()},
+        "colours": {name: of_service(plan, name) for name in plan.services},
+        "survey": survey,
+        "cases": [],
+        "ladders": [],
+        "left": 0,
+    }
 
 
 def page(parts: list[dict[str, Any]]) -> str:
     """The page of one scenario, or of two side by side."""
     data = {"plans": parts, "ladder": with_scripts(with_note(LADDER.read_text(encoding="utf-8")), *LADDER_SCRIPTS), "player": player_page.template()}
-    text = with_scripts(with_note(PAGE.read_text(encoding="utf-8")), "unpacked.js")
+    text = with_scripts(with_note(PAGE.read_text(encoding="utf-8")), *PAGE_SCRIPTS)
     title = " and ".join(part["scenario"] for part in parts)
     return text.replace("@TITLE@", as_text(title)).replace("@DATA@", as_script(data))
 
