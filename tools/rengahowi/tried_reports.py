@@ -200,7 +200,7 @@ def rest_met(folder: pathlib.Path) -> Iterator[bool]:
     path.write_text(whole(head, SECOND, WIRE, events=["connect a b", "settle 100", "tick", "settle 100"]), encoding="utf-8")
     report.write_bytes(run([PROGRAM, "replay", path], folder).stdout)
     plan = read_plan(path)
-    stretches, found = Stretches(plan, read_report(report, plan)), list[tuple[str, int]]()
+    stretches, found = Stretches(plan, read_report(report, plan)), list[tuple[int, int]]()
     for number, delivers in stretches.followed():
         found += [(number, stretches.bound.of(stretches.network))] if delivers else []
     yield compare("deliveries, each with the bound before it", found[-2:], [(7, 2), (8, 1)])
