@@ -8,3 +8,4 @@ pub mod Table
 pub mod Messages
 pub mod Reasons
 pub mod Laws
+pub mod Ticks

@@ -5,6 +5,7 @@ ghost use Rattle.session_core.specs.declared.reply.Reply.TheVariants as reply;
 ghost use Rattle.session_core.specs.{Reasons.{HasEnded}, Session.{view_of}, State.{EndedBy, IsKept, Stands, in_phase}};
 ghost use Rattle.session_core.specs.StatusCodes.{about_none, data_of};
 ghost use Rattle.session_core.specs.Table.{after, Closed, Heard, Refused, said_replies, Spoke, third, Ticked};
+ghost use Rattle.session_core.specs.Ticks.{quiet_ticks, ticks_later};
 
 use crate::endings::{bad_identifier, expired, refused};
 use crate::stage::{Case, Stage};
@@ -102,6 +103,21 @@ impl<S: Case> In<S> {
             }
             None => expired(),
         }
+    }
+
+    /// How many ticks pass before one that ends the session, or at which a KeepAlive is to be put (RFC 5036 section 2.5.6).
+    pub fn quiet(&self) -> u64
+        ensures { result ≡ quiet_ticks (in_phase S.phase self.now) }
+    {
+        self.standing.quiet(S::is_agreed())
+    }
+
+    /// So many ticks pass, at which nothing is to be done.
+    pub fn pass(&mut self, ticks: u64)
+        requires { ticks ≤ quiet_ticks (in_phase S.phase self.old) }
+        ensures { in_phase S.phase self.new ≡ ticks_later ticks (in_phase S.phase self.old) }
+    {
+        self.standing.pass(ticks);
     }
 
     /// The connection was lost, or the link did not take a PDU, as the reason says. Nothing is put.

@@ -2,6 +2,7 @@
 ghost use Rattle.std.specs.Prelude.{◌≡◌, ◌≢◌, ◌⊎◌, ◌≤◌, IfSome};
 ghost use Rattle.session_core.specs.Session.{hold_of, max_pdu_of, name_of, view_of};
 ghost use Rattle.session_core.specs.Table.{Closed, Heard, Received, Refused, Spoke, Start, Ticked, view_next, view_said};
+ghost use Rattle.session_core.specs.Ticks.{quiet_of, view_later};
 
 use crate::{Ended, In, Initialized, OpenRec, OpenSent, Operational, Replies};
 use ldp_codec::DecodeFault;
@@ -124,6 +125,34 @@ impl Session {
             Session::OpenRec(state) => state.tick(),
             Session::Operational(state) => state.tick(),
             Session::Ended(ended) => (Session::Ended(ended), Replies::none()),
+        }
+    }
+
+    /// How many ticks pass before one that ends the session, or at which a KeepAlive is to be put (RFC 5036 section 2.5.6). A
+    /// session that ended has nothing to do at any tick.
+    pub fn quiet(&self) -> u64
+        ensures { result ≡ quiet_of (view_of self.now) }
+    {
+        match self {
+            Session::Initialized(state) => state.quiet(),
+            Session::OpenSent(state) => state.quiet(),
+            Session::OpenRec(state) => state.quiet(),
+            Session::Operational(state) => state.quiet(),
+            Session::Ended(_) => u64::MAX,
+        }
+    }
+
+    /// So many ticks pass, at which nothing is to be done.
+    pub fn pass(&mut self, ticks: u64)
+        requires { ticks ≤ quiet_of (view_of self.old) }
+        ensures { view_of self.new ≡ view_later ticks (view_of self.old) }
+    {
+        match self {
+            Session::Initialized(state) => state.pass(ticks),
+            Session::OpenSent(state) => state.pass(ticks),
+            Session::OpenRec(state) => state.pass(ticks),
+            Session::Operational(state) => state.pass(ticks),
+            Session::Ended(_) => {}
         }
     }
 

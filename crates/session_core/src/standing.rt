@@ -1,5 +1,5 @@
 //! What a session that stands has, in each of its states.
-ghost use Rattle.std.specs.Prelude.{◌≡◌, ◌<◌, ◌+◌, ◌^◌, ◌↔◌, ◌&&◌, [], ◌∷◌, IfSome, IfNone, None, min, false, true, nat_le, if◌then◌else◌};
+ghost use Rattle.std.specs.Prelude.{◌≡◌, ◌<◌, ◌+◌, ◌-◌, ◌^◌, ◌↔◌, ◌&&◌, [], ◌∷◌, IfSome, IfNone, None, min, false, true, nat_le, if◌then◌else◌};
 ghost use Rattle.session_core.specs.{Parameters.{is_platform, longest, proposal_refusal}, State.{IsKept, IsProper}};
 ghost use Rattle.session_core.specs.Phase as phase;
 ghost use Rattle.session_core.specs.Table.{one_more, third};
@@ -86,10 +86,37 @@ impl Standing {
     pub(crate) fn due(&self, agreed: bool) -> Replies
         ensures { result ≡ (if agreed && nat_le (third self.now.hold) self.now.silence then reply.KeepAlive ∷ [] else []) }
     {
-        let third = (self.hold / 3).max(1);
-        if agreed && third as u64 <= self.silence {
+        if agreed && self.third() <= self.silence {
             return Replies::one(Reply::KeepAlive);
         }
         Replies::none()
+    }
+
+    // A third of the hold time, and one tick at least.
+    fn third(&self) -> u64
+        ensures { result ≡ third self.now.hold }
+    {
+        (self.hold / 3).max(1) as u64
+    }
+
+    // How many ticks pass before one at which nothing was heard for the hold time or, where an Initialization was accepted,
+    // nothing was put for a third of it.
+    pub(crate) fn quiet(&self, agreed: bool) -> u64
+        ensures { result ≡ (if agreed then min (self.now.hold - (self.now.wait + 1)) (third self.now.hold - (self.now.silence + 1)) else self.now.hold - (self.now.wait + 1)) }
+    {
+        let heard = (self.hold as u64).saturating_sub(self.wait.saturating_add(1));
+        if !agreed {
+            return heard;
+        }
+        heard.min(self.third().saturating_sub(self.silence.saturating_add(1)))
+    }
+
+    // So many ticks pass.
+    pub(crate) fn pass(&mut self, ticks: u64)
+        requires { self.old.wait + ticks < 2 ^ 64 }
+        ensures { self.new ≡ record self.old { wait = self.old.wait + ticks; silence = min (self.old.silence + ticks) (2 ^ 64 - 1) } }
+    {
+        self.wait += ticks;
+        self.silence = self.silence.saturating_add(ticks);
     }
 }
