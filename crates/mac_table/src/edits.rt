@@ -78,7 +78,7 @@ impl Stored {
     }
 
     // Takes all entries out that go, and fills the map anew.
-    fn take_many(&mut self, removal: Removal<'_>)
+    pub(crate) fn take_many(&mut self, removal: Removal<'_>)
         ensures distinct { AreDistinctAddresses self.new.entries }
         ensures entries { self.new ≡ record self.old { entries = filter (keeps_entry removal.entry) self.old.entries } }
     {

@@ -65,7 +65,7 @@ fn take_all_aged(stored: &mut Stored, since: u64) -> u64
     ensures rest { stored.new ≡ record stored.old { entries = held since stored.old.entries } }
     ensures aged { All (λ e. result ≤ e.tick) stored.new.entries }
 {
-    stored.take_out(Removal::Before { since });
+    stored.take_many(Removal::Before { since });
     oldest_of(stored.as_slice())
 }
 
