@@ -4,3 +4,4 @@ pub mod FrontLemmas
 pub mod HeardLemmas
 pub mod SettleLemmas
 pub mod SpeakerLemmas
+pub mod TickLemmas

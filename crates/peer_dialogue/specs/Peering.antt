@@ -11,6 +11,7 @@ use Rattle.session_core.specs.declared.peers.Peers.{Peers}
 use Rattle.session_core.specs.Phase.{Phase}
 use Rattle.session_core.specs.Session.{phase_name}
 use Rattle.session_core.specs.State.{SessionState, SessionView, Stands, EndedBy, opened}
+use Rattle.session_core.specs.Ticks.{ticks_later}
 use Rattle.pw_messages.specs.LinkAnswers.{Answers}
 use Rattle.edge_model.specs.Connection.{peers_of}
 use Rattle.edge_model.specs.declared.effect.Effect.{Effect}
@@ -43,6 +44,10 @@ connection_with peers = record { session = opened peers; held = []; next_id = 1 
 -- no session stands any more
 abbrev pub gone : Option Peering → Option Peering
 gone kept = None
+
+-- so many ticks later, at which nothing was to be done
+abbrev pub peering_later : ℕ → Peering → Peering
+peering_later ticks kept = record kept { session = ticks_later ticks kept.session }
 
 -- ---- a session
 

@@ -3,11 +3,11 @@ ghost use Rattle.std.specs.Prelude.{◌≡◌, ◌≤◌, [], length, IfOk, OnOk
 ghost use Rattle.net_base.specs.declared.trace.state_name.Reason.TheVariants as reason;
 ghost use Rattle.ldp_codec.specs.declared.decode_fault.DecodeFault.{DecodeFault};
 ghost use Rattle.session_core.specs.{Messages.{HasData}, Session.{phase_name, view_of}, State.{IsProper}};
-ghost use Rattle.session_core.specs.Table.{Closed, Refused, view_next, view_said};
+ghost use Rattle.session_core.specs.{Table.{Closed, Refused, view_next, view_said}, Ticks.{quiet_ticks}};
 ghost use Rattle.pw_messages.specs.LinkAnswers.{Agrees, Answers};
 ghost use Rattle.edge_model.specs.{Hear.{is_up_phase}, Put.{put_reply}, Session.{had_put, happens}, State.{EdgeState}};
 ghost use Rattle.peer_dialogue.specs.{AtWork.{WorkGoes}, Event.{MayHappen, event_of}};
-ghost use Rattle.peer_dialogue.specs.Peering.{at_peer, connection_with, had_spoken, is_over, put_message};
+ghost use Rattle.peer_dialogue.specs.Peering.{at_peer, connection_with, had_spoken, is_over, peering_later, put_message};
 ghost use Rattle.peer_dialogue.specs.PwMessage.{CanBeSaid, numbered};
 
 use crate::at_work::AtWork;
@@ -102,6 +102,22 @@ impl Peering {
         ensures { self.new ≡ record self.old { held = held } }
     {
         self.held = held;
+    }
+
+    /// How many ticks pass before one that ends the session, or at which a KeepAlive is to be put (RFC 5036 section 2.5.6).
+    pub fn quiet(&self) -> u64
+        ensures { result ≡ quiet_ticks self.now.session }
+    {
+        self.session.quiet()
+    }
+
+    /// So many ticks pass, at which nothing is to be done.
+    #[tactic(auto, using(crate::proofs::TickLemmas::stands_later))]
+    pub fn pass(&mut self, ticks: u64)
+        requires { ticks ≤ quiet_ticks self.old.session }
+        ensures { self.new ≡ peering_later ticks self.old }
+    {
+        self.session.pass(ticks);
     }
 
     /// What is left once something happened to the session: nothing, where that ends it.
