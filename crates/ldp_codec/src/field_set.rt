@@ -22,8 +22,8 @@ impl Model for FieldSet {
     ghost inverse = { λ places. record { places = places } };
 }
 
-// The place of a field.
-fn place_of(field: Field) -> usize
+/// The place of a field.
+pub fn place_of(field: Field) -> usize
     ensures place { result ≡ place_of_field field }
     ensures within { result < 12 }
 {

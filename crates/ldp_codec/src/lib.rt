@@ -25,6 +25,7 @@ mod put_tlvs;
 mod raw_message;
 mod stop;
 mod tlv;
+mod tlv_index;
 mod tlv_search;
 mod tlv_value;
 mod tlv_walk;

@@ -11,7 +11,7 @@ ghost use Rattle.ldp_codec.specs.Walk.{HasElement, IsComplete, IsWalked, element
 
 use crate::numbers::four;
 use crate::points::points;
-use crate::tlv_search::{count_tlvs, find_value};
+use crate::tlv_index::TlvIndex;
 use crate::tlv_value::{further, further_kept, needed};
 use crate::tlvs::{HelloParams, RequestId};
 use crate::values::{address_list, addresses};
@@ -23,11 +23,11 @@ use pw_tlvs::{FecValue, PwFec, read_fec};
 use std::alloc::Global;
 
 // Whether there are TLVs of all these types.
-fn has_all(kinds: &[u16], body: &[u8]) -> bool
+fn has_all(kinds: &[u16], body: &TlvIndex<'_>) -> bool
     ensures all { (ts : List Tlv) → IsJoined body.now ts → result ≡ all_there kinds.now ts }
 {
     'looking: for tlv in kinds {
-        if count_tlvs(*tlv, body) == 0 {
+        if body.lacks(*tlv) {
             return false;
         }
     }
@@ -36,7 +36,7 @@ fn has_all(kinds: &[u16], body: &[u8]) -> bool
 
 // The first TLV that is missing.
 #[tactic(auto, using(crate::proofs::ReasonLemmas::instead_is, crate::proofs::ReasonLemmas::missing_none, crate::proofs::ReasonLemmas::missing_first))]
-fn missing(kind: MessageKind, body: &[u8]) -> Option<Field>
+fn missing(kind: MessageKind, body: &TlvIndex<'_>) -> Option<Field>
     ensures missing { (ts : List Tlv) → IsJoined body.now ts → result ≡ missing_in (row_of kind) ts }
 {
     let instead = kind.instead();
@@ -44,7 +44,7 @@ fn missing(kind: MessageKind, body: &[u8]) -> Option<Field>
         return None;
     }
     'looking: for tlv in kind.needed() {
-        if count_tlvs(*tlv, body) == 0 {
+        if body.lacks(*tlv) {
             return field_of_type(*tlv);
         }
     }
@@ -53,13 +53,13 @@ fn missing(kind: MessageKind, body: &[u8]) -> Option<Field>
 
 // The FEC of a message without fault that lists one.
 #[tactic(auto, using(crate::proofs::ReasonLemmas::fec_unlisted, crate::proofs::ReasonLemmas::fec_absent, crate::proofs::ReasonLemmas::fec_there))]
-fn fec_of(kind: MessageKind, body: &[u8]) -> Option<FecValue>
+fn fec_of(kind: MessageKind, body: &TlvIndex<'_>) -> Option<FecValue>
     ensures told { (ts : List Tlv) → IsJoined body.now ts → IsFaultless (row_of kind) body.now ts → OfBoth (fec_value (row_of kind) ts) result IsFecValue }
 {
     if kind.listed(FEC).is_none() {
         return None;
     }
-    let value = find_value(FEC, body)?;
+    let value = body.value(FEC)?;
     match read_fec(value) {
         Ok(fec) => Some(fec),
         Err(_) => None,
@@ -85,7 +85,7 @@ fn reason_of_fec(kind: MessageKind, fec: &Option<FecValue>) -> Option<Why>
 fn reason_not(
     unknown: Option<u16>,
     kind: MessageKind,
-    body: &[u8],
+    body: &TlvIndex<'_>,
     fec: &Option<FecValue>,
 ) -> Option<Why>
     ensures first { (ts : List Tlv) → IsJoined body.now ts → OfBoth (fec_value (row_of kind) ts) fec.now IsFecValue → unknown ≡ first_unknown (row_of kind) ts → IsReason kind ts result }
@@ -115,7 +115,7 @@ fn element_in(fec: Option<FecValue>) -> Option<PwFec>
 pub fn processable(
     unknown: Option<u16>,
     kind: MessageKind,
-    body: &[u8],
+    body: &TlvIndex<'_>,
 ) -> Result<Option<PwFec>, Why>
     requires walked { IsWalked (row_of kind) body.now body.now unknown }
     ensures complete { IfOk result (λ _. IsComplete kind body.now) }
@@ -130,7 +130,7 @@ pub fn processable(
 }
 
 /// The value of a TLV that the message needs.
-pub fn needed_value(kind: MessageKind, tlv: u16, body: &[u8]) -> &[u8]
+pub fn needed_value<'a>(kind: MessageKind, tlv: u16, body: &TlvIndex<'a>) -> &'a [u8]
     requires complete { IsComplete kind body.now }
     requires needed { is_in tlv (row_of kind).needed ≡ true }
     requires alone { (row_of kind).instead ≡ [] }
@@ -138,22 +138,22 @@ pub fn needed_value(kind: MessageKind, tlv: u16, body: &[u8]) -> &[u8]
     ensures fits { HasValue body.now (listed (row_of kind) tlv) result.now }
     ensures few { length result.now ≤ 65535 }
 {
-    find_value(tlv, body).unwrap()
+    body.value(tlv).unwrap()
 }
 
 /// The value of a TLV that the message may have.
-pub fn further_value(kind: MessageKind, tlv: u16, body: &[u8]) -> Option<&[u8]>
+pub fn further_value<'a>(kind: MessageKind, tlv: u16, body: &TlvIndex<'a>) -> Option<&'a [u8]>
     requires complete { IsComplete kind body.now }
     ensures value { (ts : List Tlv) → IsJoined body.now ts → option_copied result ≡ value_of tlv ts }
     ensures fits { IfSome result (λ value. HasValue body.now (listed (row_of kind) tlv) value.now) }
     ensures few { IfSome result (λ value. length value.now ≤ 65535) }
 {
-    find_value(tlv, body)
+    body.value(tlv)
 }
 
 // The label, where there is one.
 #[tactic(auto, using(crate::proofs::ReasonLemmas::label_is, crate::proofs::ReasonLemmas::label_length))]
-fn label_of(kind: MessageKind, body: &[u8]) -> Option<Label>
+fn label_of(kind: MessageKind, body: &TlvIndex<'_>) -> Option<Label>
     requires complete { IsComplete kind body.now }
     requires is_listed { listed (row_of kind) label ≡ Some Field.Label }
     requires with_fec { listed (row_of kind) fec ≡ Some Field.Fec }
@@ -166,7 +166,7 @@ fn label_of(kind: MessageKind, body: &[u8]) -> Option<Label>
 }
 
 // The processed Hello.
-fn hello(id: u32, body: &[u8]) -> Message
+fn hello(id: u32, body: &TlvIndex<'_>) -> Message
     requires { IsComplete MessageKind.Hello body.now }
     ensures means { (ts : List Tlv) → IsJoined body.now ts → Means MessageKind.Hello id ts result }
 {
@@ -181,7 +181,7 @@ fn hello(id: u32, body: &[u8]) -> Message
 }
 
 // The processed Address.
-fn address(alloc: Global, id: u32, body: &[u8]) -> Result<Message, NoMemory>
+fn address(alloc: Global, id: u32, body: &TlvIndex<'_>) -> Result<Message, NoMemory>
     requires { IsComplete MessageKind.Address body.now }
     ensures means { IfOk result (λ m. (ts : List Tlv) → IsJoined body.now ts → Means MessageKind.Address id ts m) }
 {
@@ -191,7 +191,7 @@ fn address(alloc: Global, id: u32, body: &[u8]) -> Result<Message, NoMemory>
 }
 
 // The addresses that are withdrawn, where they are told.
-fn withdrawn(alloc: Global, body: &[u8]) -> Result<Option<AddressList>, NoMemory>
+fn withdrawn(alloc: Global, body: &TlvIndex<'_>) -> Result<Option<AddressList>, NoMemory>
     requires { IsComplete MessageKind.AddressWithdraw body.now }
     ensures list { IfOk result (λ addresses. (ts : List Tlv) → IsJoined body.now ts → OfBoth (value_of address_list ts) addresses IsAddressList) }
 {
@@ -205,7 +205,7 @@ fn withdrawn(alloc: Global, body: &[u8]) -> Result<Option<AddressList>, NoMemory
 fn address_withdraw(
     alloc: Global,
     id: u32,
-    body: &[u8],
+    body: &TlvIndex<'_>,
     element: Option<PwFec>,
 ) -> Result<Message, NoMemory>
     requires complete { IsComplete MessageKind.AddressWithdraw body.now }
@@ -224,7 +224,7 @@ fn address_withdraw(
 
 // The processed Label Mapping.
 #[tactic(auto, using(crate::proofs::ReasonLemmas::of_value))]
-fn label_mapping(id: u32, body: &[u8], element: Option<PwFec>) -> Message
+fn label_mapping(id: u32, body: &TlvIndex<'_>, element: Option<PwFec>) -> Message
     requires complete { IsComplete MessageKind.LabelMapping body.now }
     requires element { HasElement MessageKind.LabelMapping body.now element }
     ensures means { (ts : List Tlv) → IsJoined body.now ts → Means MessageKind.LabelMapping id ts result }
@@ -240,7 +240,7 @@ fn label_mapping(id: u32, body: &[u8], element: Option<PwFec>) -> Message
 
 // The processed Label Withdraw.
 #[tactic(auto, using(crate::proofs::ReasonLemmas::of_value))]
-fn label_withdraw(id: u32, body: &[u8], element: Option<PwFec>) -> Message
+fn label_withdraw(id: u32, body: &TlvIndex<'_>, element: Option<PwFec>) -> Message
     requires complete { IsComplete MessageKind.LabelWithdraw body.now }
     requires element { HasElement MessageKind.LabelWithdraw body.now element }
     ensures means { (ts : List Tlv) → IsJoined body.now ts → Means MessageKind.LabelWithdraw id ts result }
@@ -254,7 +254,7 @@ fn label_withdraw(id: u32, body: &[u8], element: Option<PwFec>) -> Message
 
 // The processed Label Release.
 #[tactic(auto, using(crate::proofs::ReasonLemmas::of_value))]
-fn label_release(id: u32, body: &[u8], element: Option<PwFec>) -> Message
+fn label_release(id: u32, body: &TlvIndex<'_>, element: Option<PwFec>) -> Message
     requires complete { IsComplete MessageKind.LabelRelease body.now }
     requires element { HasElement MessageKind.LabelRelease body.now element }
     ensures means { (ts : List Tlv) → IsJoined body.now ts → Means MessageKind.LabelRelease id ts result }
@@ -268,7 +268,7 @@ fn label_release(id: u32, body: &[u8], element: Option<PwFec>) -> Message
 
 // The processed Label Abort Request.
 #[tactic(auto, using(crate::proofs::ReasonLemmas::of_value))]
-fn label_abort(id: u32, body: &[u8], element: Option<PwFec>) -> Message
+fn label_abort(id: u32, body: &TlvIndex<'_>, element: Option<PwFec>) -> Message
     requires complete { IsComplete MessageKind.LabelAbort body.now }
     requires element { HasElement MessageKind.LabelAbort body.now element }
     ensures means { (ts : List Tlv) → IsJoined body.now ts → Means MessageKind.LabelAbort id ts result }
@@ -287,7 +287,7 @@ pub fn processed(
     alloc: Global,
     kind: MessageKind,
     id: u32,
-    body: &[u8],
+    body: &TlvIndex<'_>,
     element: Option<PwFec>,
 ) -> Result<Message, NoMemory>
     requires complete { IsComplete kind body.now }

@@ -9,7 +9,7 @@ use crate::Part;
 use crate::message_body::{processable, processed};
 use crate::part::ROOM;
 use crate::part_search::find_part;
-use crate::tlv_search::unknown_tlv;
+use crate::tlv_index::index_tlvs;
 use ldp_grammar::{Message, MessageKind, U_BIT};
 use net_values::NoMemory;
 use std::alloc::Global;
@@ -109,8 +109,9 @@ fn read_flat(alloc: Global, word: u16, number: u32, body: &[u8]) -> Result<Messa
             kind: word % U_BIT,
         });
     };
-    match processable(unknown_tlv(kind, body), kind, body) {
-        Ok(element) => processed(alloc, kind, number, body, element),
+    let (unknown, tlvs) = index_tlvs(kind, body);
+    match processable(unknown, kind, &tlvs) {
+        Ok(element) => processed(alloc, kind, number, &tlvs, element),
         Err(why) => Ok(Message::Unprocessed {
             id: number,
             kind: kind.number(),
