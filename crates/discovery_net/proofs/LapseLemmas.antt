@@ -8,7 +8,7 @@ use Rattle.net_base.specs.declared.plan.places.EdgeId.{EdgeId}
 use Rattle.net_base.specs.declared.trace.event.Event.TheVariants as event
 use Rattle.ldp_discovery.specs.Adjacencies.{AdjacencyLists, IsAfter}
 use Rattle.ldp_discovery.specs.Live.{Deed, ticked, AreHolds}
-use Rattle.adjacency_table.specs.Histories.{AreAfter, ends_by_tick, with_deed}
+use Rattle.ldp_discovery.specs.Histories.{AreAfter, ends_by_tick, with_deed}
 use Rattle.network_model.specs.Run.{state_after}
 use Rattle.network_model.specs.State.{NetworkState}
 use Rattle.network_model.specs.State as network

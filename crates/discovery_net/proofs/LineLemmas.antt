@@ -15,7 +15,7 @@ use Rattle.net_base.specs.plan.Paths.{are_joined, edge_address}
 use Rattle.ldp_discovery.specs.Adjacencies.{AdjacencyLists, id_behind}
 use Rattle.ldp_discovery.specs.Hellos.{hello_octets}
 use Rattle.ldp_discovery.specs.Live.{Deed, said, heard, ticked, live}
-use Rattle.adjacency_table.specs.Histories.{AreAfter, AreEdgesOf, with_deed}
+use Rattle.ldp_discovery.specs.Histories.{AreAfter, AreEdgesOf, with_deed}
 use Rattle.network_model.specs.Run.{state_after}
 use Rattle.network_model.specs.State.{NetworkState, empty_network}
 use Rattle.network_model.specs.Step.{step}

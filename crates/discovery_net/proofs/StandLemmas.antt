@@ -28,7 +28,7 @@ use Rattle.discovery_script.specs.declared.script_line.ScriptLine.TheVariants as
 use Rattle.discovery_script.specs.declared.note.Note.TheVariants as note
 use Rattle.discovery_script.specs.Planned.{AreOfPlan, IsDiscoveryLineOf, IsScripted}
 use Rattle.discovery_net.specs.Acts.{Does, Tells, events_in}
-use Rattle.adjacency_table.specs.Histories.{ends_by_tick, with_deed}
+use Rattle.ldp_discovery.specs.Histories.{ends_by_tick, with_deed}
 use Rattle.discovery_net.specs.Deeds.{Discovery, Hello, adjacency_lives, hello_numbered, octets_of_hello, discovery_opened}
 use Rattle.discovery_net.specs.Lines.{Lapse, after_line, bring_acts, downs, heard_at, lapses_from, lapses_with, may_open, next_hello}
 use Rattle.discovery_net.specs.Script.{HoldsBehindEach, after_lines}

@@ -6,7 +6,7 @@ use Rattle.net_base.specs.declared.trace.event.Event.TheVariants as event
 use Rattle.net_base.specs.plan.Paths.{are_joined}
 use Rattle.ldp_discovery.specs.Adjacencies.{id_behind}
 use Rattle.ldp_discovery.specs.Live.{Deed, said, heard, ticked}
-use Rattle.adjacency_table.specs.Histories.{ends_by_tick, with_deed}
+use Rattle.ldp_discovery.specs.Histories.{ends_by_tick, with_deed}
 use Rattle.network_model.specs.Run.{state_after}
 use Rattle.network_model.specs.State.{NetworkState, stands}
 use Rattle.network_model.specs.Step.{step}

@@ -3,7 +3,7 @@ use Rattle.std.specs.Prelude.{◌≡◌, ◌<◌, ◌≤◌, ◌^◌, ◌++◌, 
 use Rattle.std.specs.List.{All}
 use Rattle.net_base.specs.declared.plan.Plan.{Plan}
 use Rattle.ldp_discovery.specs.Adjacencies.{AdjacencyLists}
-use Rattle.adjacency_table.specs.Histories.{AreAfter, AreEdgesOf}
+use Rattle.ldp_discovery.specs.Histories.{AreAfter, AreEdgesOf}
 use Rattle.psn_net.specs.declared.net_stop.NetStop.{NetStop}
 use Rattle.psn_net.specs.declared.net_stop.NetStop.TheVariants.{Crowded, TooMuch, NoMemory}
 use Rattle.psn_net.specs.Lists.{NetLists, network_seen}

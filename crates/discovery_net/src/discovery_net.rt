@@ -11,10 +11,10 @@ mod hellos;
 mod ticks;
 
 use crate::said_hello::SaidHello;
-use adjacency_table::AdjacencyTable;
 use command_run::{LeftCaptures, run_command};
 use command_text::Command;
 use discovery_script::{Note, PlacedNote, ScriptLine};
+use ldp_discovery::AdjacencyTable;
 use net_base::{List, NoMemory, Plan};
 use psn_net::{NetStop, Network};
 use std::alloc::Global;

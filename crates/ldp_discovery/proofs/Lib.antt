@@ -3,3 +3,4 @@ pub mod LapsedLemmas
 pub mod LiveLemmas
 pub mod HearLemmas
 pub mod HelloLemmas
+pub mod HistoryLemmas

@@ -1,3 +1,4 @@
 pub mod Adjacencies
 pub mod Hellos
+pub mod Histories
 pub mod Live

@@ -1,2 +1,5 @@
 pub mod CommonLemmas
+pub mod EventLemmas
 pub mod ReadLemmas
+pub mod VerdictLemmas
+pub mod WindowLemmas

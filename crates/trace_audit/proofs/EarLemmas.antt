@@ -5,7 +5,7 @@ use Rattle.net_base.specs.declared.trace.entry.Entry.{Entry}
 use Rattle.net_base.specs.declared.trace.entry.Entry.TheVariants as kind
 use Rattle.net_base.specs.declared.trace.event.Event.TheVariants.{Frame}
 use Rattle.net_values.specs.declared.no_memory.NoMemory.{NoMemory}
-use Rattle.seen_windows.specs.Verdict.{OnceAnswers, Unserved}
+use Rattle.seen_network.specs.Verdict.{OnceAnswers, Unserved}
 use Rattle.window_audit.specs.declared.windows.Windows.{Windows}
 use Rattle.window_audit.specs.Windows.{HasHeard}
 use Rattle.window_audit.proofs.OpenedLemmas.{place_within as place_most}

@@ -6,7 +6,7 @@ use Rattle.net_base.specs.trace.Isolated.{Isolated, IsolatedAfter, IsolatedEntry
 use Rattle.net_base.specs.trace.Split.{Split, SplitEntry}
 use Rattle.report_entries.specs.Report.{told_of}
 use Rattle.seen_network.specs.Once.{OnceSeen}
-use Rattle.seen_windows.specs.Verdict.{Unserved}
+use Rattle.seen_network.specs.Verdict.{Unserved}
 use Rattle.trace_audit.specs.declared.audit_stop.AuditStop.TheVariants as stop
 use Rattle.trace_audit.specs.Audited.{FirstCrossing, FirstStray, IsGoodTrace}
 use Rattle.trace_audit.specs.Yes.{GoodReportsGetYes}

@@ -6,7 +6,7 @@ use Rattle.net_base.specs.trace.Isolated.{Isolated, IsolatedEntry}
 use Rattle.net_base.specs.trace.Split.{Split, SplitEntry}
 use Rattle.report_entries.specs.Report.{told_of}
 use Rattle.seen_network.specs.Once.{OnceSeen}
-use Rattle.seen_windows.specs.Verdict.{FirstUnserved}
+use Rattle.seen_network.specs.Verdict.{FirstUnserved}
 use Rattle.trace_audit.specs.declared.audit_stop.AuditStop.{AuditStop}
 use Rattle.trace_audit.specs.declared.audit_stop.AuditStop.TheVariants as stop
 

@@ -20,7 +20,7 @@ use Rattle.discovery_net.specs.Lines.{Lapse, acts_of, after_line, bring_acts, do
 use Rattle.discovery_net.specs.Lists.{DiscoveryLists, ended_at}
 use Rattle.discovery_net.specs.Script.{HoldsBehindEach, events_made, script_acts, script_course}
 use Rattle.discovery_net.proofs.CourseLemmas.{done_alone}
-use Rattle.adjacency_table.specs.Histories.{ends_by_tick}
+use Rattle.ldp_discovery.specs.Histories.{ends_by_tick}
 use Rattle.ldp_discovery.specs.Live.{Deed}
 use Rattle.discovery_script.specs.declared.note.Note.TheVariants as note
 use Rattle.discovery_script.specs.declared.placed_note.PlacedNote.{PlacedNote}

@@ -11,7 +11,7 @@ use Rattle.net_base.specs.declared.trace.event.Event.TheVariants as event
 use Rattle.hvpls_spokes.specs.PortSet.{holds_port}
 use Rattle.seen_network.specs.Calm.{is_seen_calm}
 use Rattle.seen_network.specs.Seen.{Seen, SeenCopy, happened, happened_or, origin_among, repeats, seen_from, told_by_itself, with_copies, with_on}
-use Rattle.seen_windows.specs.EventEntries.{HasNoEvent}
+use Rattle.seen_network.specs.EventEntries.{HasNoEvent}
 use Rattle.window_audit.specs.CalmMemory.{Remembers, some_stirs, stirs, stirs_by}
 use Rattle.window_audit.specs.declared.calm_memory.CalmMemory.{CalmMemory}
 

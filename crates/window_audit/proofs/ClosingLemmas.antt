@@ -7,8 +7,8 @@ use Rattle.std.specs.List.{filter}
 use Rattle.net_values.proofs.NumberLemmas.{same_number, equal_turned}
 use Rattle.seen_network.specs.Once.{has_seen}
 use Rattle.seen_network.specs.Seen.{Seen}
-use Rattle.seen_windows.specs.Past.{AmongWindows}
-use Rattle.seen_windows.specs.declared.window.Window.{Window}
+use Rattle.seen_network.specs.Windows.{AmongWindows}
+use Rattle.seen_network.specs.declared.window.Window.{Window}
 use Rattle.window_audit.specs.Lasting.{ClosesOne, HasClosed, is_one_of, are_copies_over}
 use Rattle.window_audit.proofs.LastingLemmas.{among_either, among_filter, among_left, among_right, from_filter}
 

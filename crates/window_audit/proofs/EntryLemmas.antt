@@ -5,7 +5,7 @@ use Rattle.net_base.specs.declared.plan.places.CircuitId.{CircuitId}
 use Rattle.net_base.specs.declared.trace.entry.Entry.{Entry}
 use Rattle.net_base.specs.declared.trace.entry.Entry.TheVariants as entry
 use Rattle.seen_network.specs.Once.{entered_as}
-use Rattle.seen_windows.specs.EventEntries.{HasNoEvent, entered_place}
+use Rattle.seen_network.specs.EventEntries.{HasNoEvent, entered_place}
 use Rattle.window_audit.specs.EventEntries.{entered_by}
 use Rattle.window_audit.proofs.CalmLemmas.{bare_rest}
 

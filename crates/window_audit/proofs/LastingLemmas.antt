@@ -9,8 +9,8 @@ use Rattle.net_base.specs.declared.trace.entry.Entry.TheVariants.{Did}
 use Rattle.net_base.specs.declared.trace.event.Event.{Event}
 use Rattle.seen_network.specs.Once.{has_seen, spares_seen}
 use Rattle.seen_network.specs.Seen.{Seen, is_idle_behind, seen_in}
-use Rattle.seen_windows.specs.Past.{AmongWindows, AreWindowsOpen, AreOwed, Closes, HasPassedWindows, IsLeftOpen}
-use Rattle.seen_windows.specs.declared.window.Window.{Window}
+use Rattle.seen_network.specs.Windows.{AmongWindows, AreWindowsOpen, AreOwed, Closes, HasPassedWindows, IsLeftOpen}
+use Rattle.seen_network.specs.declared.window.Window.{Window}
 use Rattle.window_audit.specs.Lasting.{AreLasting, ClosesOne, HasClosed, is_one_of, are_copies_over, was_flooded, with_found}
 
 -- ---- members of lists

@@ -12,7 +12,7 @@ use Rattle.seen_network.specs.Seen.{Seen, SeenCopy, copy_comes, copy_goes, deliv
 use Rattle.seen_state.specs.Copies.{CopyMaps, TellsPackets, origin_under}
 use Rattle.seen_state.specs.SeenState.{Knows}
 use Rattle.seen_state.specs.declared.seen_state.SeenState.{SeenState}
-use Rattle.seen_windows.specs.EventEntries.{HasNoEvent}
+use Rattle.seen_network.specs.EventEntries.{HasNoEvent}
 use Rattle.window_audit.specs.Lasting.{is_one_of}
 use Rattle.window_audit.specs.Losses.{Follows, ListsLosses}
 

@@ -3,7 +3,7 @@ use Rattle.std.proofs.Common.{◌≡◌, ◌==◌, ◌++◌, ◌∷◌, ◌∙�
 use Rattle.std.proofs.lemmas.Bool.{eqb-true}
 use Rattle.std.specs.List.{filter}
 use Rattle.seen_state.specs.Numbered.{Values, value_at}
-use Rattle.seen_windows.specs.declared.window.Window.{Window}
+use Rattle.seen_network.specs.declared.window.Window.{Window}
 use Rattle.window_audit.specs.Lasting.{OpenWindows, others_at, windows_at, with_first}
 
 pub none_open : (firsts : Values Window) (others : List (ℕ × List Window)) (origin : ℕ) → value_at firsts origin ≡ None → others ≡ [] → windows_at (record { firsts = firsts; others = others }) origin ≡ []

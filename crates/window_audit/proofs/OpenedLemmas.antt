@@ -9,9 +9,9 @@ use Rattle.net_base.specs.declared.trace.event.Event.{Event}
 use Rattle.net_base.specs.declared.trace.event.Event.TheVariants.{Frame}
 use Rattle.seen_network.specs.Once.{entered_as}
 use Rattle.seen_network.specs.Seen.{seen_in}
-use Rattle.seen_windows.specs.EventEntries.{entered_place}
-use Rattle.seen_windows.specs.Past.{Describes, HasOpened, IsOpened, Opens, OpensOne}
-use Rattle.seen_windows.specs.declared.window.Window.{Window}
+use Rattle.seen_network.specs.EventEntries.{entered_place}
+use Rattle.seen_network.specs.Windows.{Describes, HasOpened, IsOpened, Opens, OpensOne}
+use Rattle.seen_network.specs.declared.window.Window.{Window}
 use Rattle.window_audit.specs.Opening.{OpensWith}
 use Rattle.window_audit.specs.Past.{FrameOpens}
 use Rattle.window_audit.specs.declared.opening.Opening.{Opening}

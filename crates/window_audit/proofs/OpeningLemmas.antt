@@ -18,7 +18,7 @@ use Rattle.net_values.proofs.NumberLemmas.{lt_next}
 use Rattle.hvpls_spokes.specs.PortSet.{holds_port}
 use Rattle.seen_network.specs.Once.{is_circuit_row_of}
 use Rattle.seen_network.specs.Seen.{Seen}
-use Rattle.seen_windows.specs.Past.{GoesTo}
+use Rattle.seen_network.specs.Windows.{GoesTo}
 use Rattle.window_audit.specs.Opening.{is_due}
 
 -- ---- sites

@@ -14,11 +14,11 @@ use Rattle.seen_network.proofs.ReadLemmas.{seen_on}
 use Rattle.seen_state.specs.Numbered.{Values}
 use Rattle.seen_state.specs.SeenState.{Knows}
 use Rattle.seen_state.specs.declared.seen_state.SeenState.{SeenState}
-use Rattle.seen_windows.specs.EventEntries.{HasNoEvent, event_of_entry, tells_idle}
-use Rattle.seen_windows.specs.Past.{AmongWindows, AreOwed, IsOpen, IsOpened, IsOwed}
-use Rattle.seen_windows.specs.declared.window.Window.{Window}
-use Rattle.seen_windows.proofs.EventLemmas.{idle_told, no_event_in}
-use Rattle.seen_windows.proofs.PastLemmas.{still_open, still_owed}
+use Rattle.seen_network.specs.EventEntries.{HasNoEvent, event_of_entry, tells_idle}
+use Rattle.seen_network.specs.Windows.{AmongWindows, AreOwed, IsOpen, IsOpened, IsOwed}
+use Rattle.seen_network.specs.declared.window.Window.{Window}
+use Rattle.seen_network.proofs.EventLemmas.{idle_told, no_event_in}
+use Rattle.seen_network.proofs.WindowLemmas.{still_open, still_owed}
 use Rattle.window_audit.specs.CalmMemory.{Remembers}
 use Rattle.window_audit.specs.Exits.{HasExits}
 use Rattle.window_audit.specs.Lasting.{OpenWindows, AreLasting, HasClosed, is_one_of, are_copies_over, was_flooded, windows_at, with_found}

@@ -5,7 +5,7 @@ use Rattle.seen_network.specs.Once.{names_seen}
 use Rattle.seen_network.specs.Seen.{Seen}
 use Rattle.seen_state.specs.Copies.{CopyMaps, TellsPackets, is_number, origin_under}
 use Rattle.seen_state.proofs.CopyLemmas.{seen_named}
-use Rattle.seen_windows.specs.declared.window.Window.{Window}
+use Rattle.seen_network.specs.declared.window.Window.{Window}
 
 pub spared_idle : (seen : Seen) (origin packet : ℕ) (idle : Bool) (ws : List Window) → idle ≡ true → ws ≡ cond (idle || not (names_seen seen origin packet)) ws []
 spared_idle seen origin packet idle ws holds = ap (λ (b : Bool). cond (b || not (names_seen seen origin packet)) ws []) (sym holds)

@@ -10,9 +10,9 @@ use Rattle.net_base.specs.declared.trace.entry.Entry.{Entry}
 use Rattle.net_base.specs.declared.trace.entry.Entry.TheVariants as entry
 use Rattle.net_base.specs.plan.Accepted.{IsWithinLimits}
 use Rattle.seen_network.specs.Once.{SeenWithin, times_seen}
-use Rattle.seen_windows.specs.Verdict.{IsFirstOwed, IsServed}
-use Rattle.seen_windows.specs.Past.{AmongWindows}
-use Rattle.seen_windows.specs.declared.window.Window.{Window}
+use Rattle.seen_network.specs.Verdict.{IsFirstOwed, IsServed}
+use Rattle.seen_network.specs.Windows.{AmongWindows}
+use Rattle.seen_network.specs.declared.window.Window.{Window}
 use Rattle.seen_state.specs.Numbered.{Values}
 use Rattle.window_audit.specs.Exits.{HasExits, LeftTwice, has_left, is_again, is_far, leavings_of, left_far}
 use Rattle.window_audit.specs.Verdict.{AgreeOrDiffer, DifferAtSites, Judges, earlier, is_owed_at}

@@ -5,9 +5,9 @@ use Rattle.net_base.specs.declared.plan.Plan.{Plan}
 use Rattle.net_base.specs.declared.trace.entry.Entry.{Entry}
 use Rattle.net_base.specs.declared.trace.entry.Entry.TheVariants as entry
 use Rattle.seen_state.specs.Placed.{IsPlaced}
-use Rattle.seen_windows.specs.EventEntries.{HasNoEvent}
-use Rattle.seen_windows.specs.Verdict.{IsFirstOwed, OnceAnswers}
-use Rattle.seen_windows.proofs.VerdictLemmas.{answered}
+use Rattle.seen_network.specs.EventEntries.{HasNoEvent}
+use Rattle.seen_network.specs.Verdict.{IsFirstOwed, OnceAnswers}
+use Rattle.seen_network.proofs.VerdictLemmas.{answered}
 use Rattle.window_audit.specs.Exits.{HasExits}
 use Rattle.window_audit.specs.Past.{AreOfOne, ArePlaced, HasSeen, IsPastOf}
 use Rattle.window_audit.specs.Windows.{AreOf, AreReadyFor, CanHear, HasHeard, tells_event, told_count}

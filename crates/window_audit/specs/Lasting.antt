@@ -9,8 +9,8 @@ use Rattle.net_base.specs.declared.trace.entry.Entry.{Entry}
 use Rattle.seen_network.specs.Once.{has_seen}
 use Rattle.seen_network.specs.Seen.{Seen, seen_in}
 use Rattle.seen_state.specs.Numbered.{Values, value_at}
-use Rattle.seen_windows.specs.Past.{AmongWindows, AreWindowsOpen, flooded_to}
-use Rattle.seen_windows.specs.declared.window.Window.{Window}
+use Rattle.seen_network.specs.Windows.{AmongWindows, AreWindowsOpen, flooded_to}
+use Rattle.seen_network.specs.declared.window.Window.{Window}
 
 pub record OpenWindows : Type 0 where
   -- the first window of each frame

@@ -10,7 +10,7 @@ use Rattle.hvpls_spokes.specs.PortSet.{holds_port}
 use Rattle.seen_network.specs.Calm.{is_seen_calm}
 use Rattle.seen_network.specs.Once.{is_seen_site}
 use Rattle.seen_network.specs.Seen.{Seen}
-use Rattle.seen_windows.specs.Past.{GoesTo}
+use Rattle.seen_network.specs.Windows.{GoesTo}
 use Rattle.window_audit.specs.declared.opening.Opening.{Opening}
 
 -- the frame has no fault

@@ -8,9 +8,9 @@ use Rattle.net_base.specs.declared.trace.entry.Entry.TheVariants.{Did}
 use Rattle.seen_network.specs.Seen.{seen_in}
 use Rattle.seen_state.specs.SeenState.{Knows}
 use Rattle.seen_state.specs.Sight.{sizes_of}
-use Rattle.seen_windows.specs.EventEntries.{HasNoEvent}
-use Rattle.seen_windows.specs.Past.{AreOwed, Describes, HasOpened}
-use Rattle.seen_windows.specs.declared.window.Window.{Window}
+use Rattle.seen_network.specs.EventEntries.{HasNoEvent}
+use Rattle.seen_network.specs.Windows.{AreOwed, Describes, HasOpened}
+use Rattle.seen_network.specs.declared.window.Window.{Window}
 use Rattle.window_audit.specs.CalmMemory.{Remembers}
 use Rattle.window_audit.specs.Exits.{HasExits, IsAtPort}
 use Rattle.window_audit.specs.Lasting.{AreLasting, windows_at}

@@ -3,8 +3,8 @@ use Rattle.std.specs.Prelude.{◌≡◌, ◌<◌, ◌&&◌, nat_lt, ℕ, Bool, t
 use Rattle.hvpls_spokes.specs.PortSet.{holds_port}
 use Rattle.net_base.specs.declared.plan.Plan.{Plan}
 use Rattle.net_base.specs.declared.trace.entry.Entry.{Entry}
-use Rattle.seen_windows.specs.Verdict.{IsServed}
-use Rattle.seen_windows.specs.declared.window.Window.{Window}
+use Rattle.seen_network.specs.Verdict.{IsServed}
+use Rattle.seen_network.specs.declared.window.Window.{Window}
 
 -- the circuit is a site, and one of the plan
 abbrev pub is_owed_at : Plan → List ℕ → ℕ → Bool

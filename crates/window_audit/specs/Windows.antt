@@ -3,7 +3,7 @@ use Rattle.std.specs.Prelude.{◌≡◌, ◌<◌, ◌+◌, ◌^◌, ◌++◌, �
 use Rattle.net_base.specs.declared.plan.Plan.{Plan}
 use Rattle.net_base.specs.declared.trace.entry.Entry.{Entry}
 use Rattle.net_base.specs.declared.trace.entry.Entry.TheVariants.{Did}
-use Rattle.seen_windows.specs.EventEntries.{HasNoEvent}
+use Rattle.seen_network.specs.EventEntries.{HasNoEvent}
 use Rattle.window_audit.specs.Past.{AreOfOne, ArePlaced, HasSeen, IsPastOf}
 use Rattle.window_audit.specs.declared.windows.Windows.{Windows}
 

@@ -2,9 +2,8 @@
 ghost use Rattle.std.specs.Prelude.{◌≡◌, ◌<◌, true, false};
 ghost use Rattle.hvpls_spokes.specs.PortSet.{holds_port};
 ghost use Rattle.net_base.specs.{declared.plan.Plan.{Plan as Planned}, plan.Accepted.{IsWithinLimits}};
-ghost use Rattle.seen_network.specs.{Calm.{is_seen_calm}, Seen.{Seen, happened_or, seen_from}};
+ghost use Rattle.seen_network.specs.{Calm.{is_seen_calm}, EventEntries.{HasNoEvent}, Seen.{Seen, happened_or, seen_from}};
 ghost use Rattle.seen_state.specs.SeenState.{Knows};
-ghost use Rattle.seen_windows.specs.EventEntries.{HasNoEvent};
 ghost use Rattle.window_audit.specs.CalmMemory.{Remembers, some_stirs, stirs, stirs_by};
 
 use hvpls_spokes::PortSet;

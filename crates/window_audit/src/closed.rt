@@ -9,8 +9,8 @@ use crate::lasting::Lasting;
 use crate::sources::Sources;
 use net_base::{NoMemory, ServiceId};
 use net_values::Mac;
+use seen_network::Window;
 use seen_state::SeenState;
-use seen_windows::Window;
 
 /// The windows of these frames are over where no copy of the frame is under way any more; those that were flooded are owed then.
 pub(crate) fn close(

@@ -1,7 +1,7 @@
 //! The entries of one event.
 ghost use Rattle.std.specs.Prelude.{◌≡◌, option_copied, option_map, IfSome};
 ghost use Rattle.seen_network.specs.Once.{entered_as};
-ghost use Rattle.seen_windows.specs.EventEntries.{HasNoEvent, entered_place, event_of_entry, is_idle_entry, tells_idle};
+ghost use Rattle.seen_network.specs.EventEntries.{HasNoEvent, entered_place, event_of_entry, is_idle_entry, tells_idle};
 ghost use Rattle.window_audit.specs.EventEntries.{entered_by};
 
 use net_base::{CircuitId, Entry, Event};

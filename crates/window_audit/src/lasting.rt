@@ -4,8 +4,8 @@ ghost use Rattle.window_audit.specs.Lasting.{others_at, windows_at, with_first};
 
 use crate::taken::Taken;
 use net_base::{List, NoMemory};
+use seen_network::Window;
 use seen_state::Numbered;
-use seen_windows::Window;
 use std::alloc::Global;
 use std::collections::BTreeMap;
 use std::marker::Model;

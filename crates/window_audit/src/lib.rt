@@ -1,7 +1,7 @@
 //! Whether each flooded frame that entered a calm service was seen exactly once, as a report alone shows it (RFC 4762 section 4).
 //!
 //! It is told entry by entry. The entries of an event are kept until the next event, since only then it is known whether the event
-//! applied. Its definitions are those of `seen_network` and `seen_windows`; nothing is run here.
+//! applied. Its definitions are those of `seen_network`; nothing is run here.
 #![tactic(auto)]
 
 mod address;

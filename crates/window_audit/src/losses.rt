@@ -1,8 +1,8 @@
 //! What is seen behind an event and its entries, and the frames of which copies went by them.
 ghost use Rattle.std.specs.Prelude.{◌≡◌, ◌<◌, ◌≤◌, ◌+◌, ◌^◌, ℕ, Some, true, false, length, OnOk};
 ghost use Rattle.seen_network.specs.{Once.{has_seen}, Seen.{Seen, happened, happened_or, seen_from, told_by_itself}};
+ghost use Rattle.seen_network.specs.EventEntries.{HasNoEvent};
 ghost use Rattle.seen_state.specs.{Copies.{TellsPackets}, Placed.{IsEventWithin, IsWithin}, SeenState.{Knows}};
-ghost use Rattle.seen_windows.specs.EventEntries.{HasNoEvent};
 ghost use Rattle.window_audit.specs.{Lasting.{is_one_of}, Losses.{AreWithin, Follows}};
 
 use net_base::{Entry, Event, NoMemory};

@@ -1,17 +1,16 @@
 //! The window of a frame that enters.
 ghost use Rattle.std.specs.Prelude.{◌≡◌, ◌<◌, ◌+◌, ◌^◌, List as Items, length};
 ghost use Rattle.net_base.specs.{declared.trace.entry.Entry.{Entry as Told}, plan.Accepted.{IsWithinLimits}};
-ghost use Rattle.seen_network.specs.Seen.{Seen, seen_in};
+ghost use Rattle.seen_network.specs.{EventEntries.{HasNoEvent}, Seen.{Seen, seen_in}, Windows.{IsOpened}};
 ghost use Rattle.seen_state.specs.SeenState.{Knows};
-ghost use Rattle.seen_windows.specs.{EventEntries.{HasNoEvent}, Past.{IsOpened}};
 ghost use Rattle.window_audit.specs.{CalmMemory.{Remembers}, Past.{FrameOpens}};
 
 use crate::calm_memory::CalmMemory;
 use crate::event_entries::entered;
 use crate::opening::open_at;
 use net_base::{CircuitId, Entry, Event, Plan};
+use seen_network::Window;
 use seen_state::SeenState;
-use seen_windows::Window;
 
 /// The window of the frame that entered by an event, before which so many entries stand and behind which these.
 pub(crate) fn opened(

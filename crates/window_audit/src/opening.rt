@@ -1,9 +1,8 @@
 //! Where a window opens.
 ghost use Rattle.std.specs.Prelude.{◌≡◌, ◌≤◌, ◌==◌, ◌&&◌, not, length};
 ghost use Rattle.net_base.specs.{plan.Accepted.{IsWithinLimits}, trace.Isolated.{inner_at}};
-ghost use Rattle.seen_network.specs.Seen.{Seen};
+ghost use Rattle.seen_network.specs.{Seen.{Seen}, Windows.{GoesTo}};
 ghost use Rattle.seen_state.specs.SeenState.{Knows};
-ghost use Rattle.seen_windows.specs.Past.{GoesTo};
 ghost use Rattle.window_audit.specs.{CalmMemory.{Remembers}, Opening.{AreSites, OpensIn, OpensWith, is_good}};
 
 use crate::address::address_at;

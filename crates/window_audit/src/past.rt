@@ -3,8 +3,8 @@ ghost use Rattle.std.specs.Prelude.{◌≡◌, ◌<◌, ◌≤◌, ◌+◌, ◌+
 ghost use Rattle.net_base.specs.{declared.plan.Plan.{Plan as Planned}, declared.trace.entry.Entry.{Entry as Told}};
 ghost use Rattle.net_base.specs.{declared.trace.entry.Entry.TheVariants.{Did}, plan.Accepted.{IsWithinLimits}};
 ghost use Rattle.seen_network.specs.Seen.{Seen, seen_from};
+ghost use Rattle.seen_network.specs.{EventEntries.{HasNoEvent}, Verdict.{OnceAnswers}, declared.window.Window.{Window as Found}};
 ghost use Rattle.seen_state.specs.{Placed.{IsEventWithin}, SeenState.{Knows}};
-ghost use Rattle.seen_windows.specs.{EventEntries.{HasNoEvent}, Verdict.{OnceAnswers}, declared.window.Window.{Window as Found}};
 ghost use Rattle.window_audit.specs.{CalmMemory.{Remembers}, Exits.{HasExits}, Lasting.{is_one_of, windows_at, with_found}};
 ghost use Rattle.window_audit.specs.{Losses.{AreWithin}, Past.{AreAtPorts, AreOfOne, ArePlaced, HasSeen, HasWindows, IsPastOf}};
 ghost use Rattle.window_audit.specs.Sources.{HasSources};
@@ -20,8 +20,8 @@ use crate::sources::Sources;
 use crate::spared::spare;
 use crate::verdict::first_unserved;
 use net_base::{Entry, Event, NoMemory, Plan};
+use seen_network::Window;
 use seen_state::SeenState;
-use seen_windows::Window;
 use std::alloc::Global;
 
 /// What is known behind the events that are over: what is seen, where frames came from and left, the windows that are open, and those

@@ -1,7 +1,7 @@
 //! The windows of a frame.
 
 use net_base::List;
-use seen_windows::Window;
+use seen_network::Window;
 
 /// The windows of a frame that were open.
 #[derive(Drop)]

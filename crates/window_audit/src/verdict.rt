@@ -2,13 +2,13 @@
 ghost use Rattle.std.specs.Prelude.{◌≡◌, ◌≢◌, ◌<◌, ℕ, false, List};
 ghost use Rattle.hvpls_spokes.specs.PortSet.{holds_port};
 ghost use Rattle.net_base.specs.{declared.trace.entry.Entry.{Entry as Told}, plan.Accepted.{IsWithinLimits}};
-ghost use Rattle.seen_windows.specs.Verdict.{IsFirstOwed};
+ghost use Rattle.seen_network.specs.Verdict.{IsFirstOwed};
 ghost use Rattle.window_audit.specs.{Exits.{HasExits}, Verdict.{AgreeOrDiffer, Judges, earlier, is_owed_at}};
 
 use crate::exits::Exits;
 use hvpls_spokes::PortSet;
 use net_base::Plan;
-use seen_windows::Window;
+use seen_network::Window;
 
 /// The first place at which a frame entered whose window is one of these, and that did not leave once at each site and nowhere else.
 pub(crate) fn first_unserved(exits: &Exits, plan: &Plan, owed: &[Window]) -> Option<u64>

@@ -2,7 +2,7 @@
 ghost use Rattle.std.specs.Prelude.{◌≡◌, ◌<◌, ◌+◌, ◌++◌, ◌∷◌, ◌^◌, [], List, IfOk, OnOk};
 ghost use Rattle.net_base.specs.{declared.trace.entry.Entry.{Entry as Told}, plan.Accepted.{IsChecked, IsWithinLimits}};
 ghost use Rattle.seen_state.specs.Placed.{IsPlaced};
-ghost use Rattle.seen_windows.specs.Verdict.{OnceAnswers};
+ghost use Rattle.seen_network.specs.Verdict.{OnceAnswers};
 ghost use Rattle.window_audit.specs.{Past.{HasSeen, IsPastOf}, Windows.{AreOf, AreReadyFor, CanHear, HasHeard, tells_event, told_count}};
 
 use crate::past::Past;

@@ -1,7 +1,6 @@
 //! Ticks: adjacencies end, and take what stands on them along.
 ghost use Rattle.std.specs.Prelude.{◌≡◌, ◌<◌, ◌∷◌, ◌-◌, ℕ, false, length, List, OnOk};
-ghost use Rattle.ldp_discovery.specs.Live.{Deed, ticked};
-ghost use Rattle.adjacency_table.specs.Histories.{AreAfter, ends_by_tick, with_deed};
+ghost use Rattle.ldp_discovery.specs.{Live.{Deed, ticked}, Histories.{AreAfter, ends_by_tick, with_deed}};
 ghost use Rattle.network_model.specs.State.{stands};
 ghost use Rattle.psn_net.specs.Lists.{network_seen};
 ghost use Rattle.command_run.specs.Going.{IsRunGoing};

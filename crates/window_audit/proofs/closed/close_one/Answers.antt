@@ -1,7 +1,7 @@
 use Rattle.std.proofs.Common.{◌∙◌, ◌++◌, List, ap, sym}
 use Rattle.std.specs.List.{filter}
 use Rattle.std.proofs.lemmas.Result.{on_ok_weaker}
-use Rattle.seen_windows.specs.declared.window.Window.{Window}
+use Rattle.seen_network.specs.declared.window.Window.{Window}
 use Rattle.window_audit.specs.Lasting.{was_flooded, windows_at, with_first}
 use Rattle.window_audit.proofs.ClosingLemmas.{closed_one}
 use Rattle.window_audit.proofs.closed.close_one.Goals as goal

@@ -1,6 +1,6 @@
 use Rattle.std.proofs.Common.{◌≡◌, ◌+◌, drop}
 use Rattle.seen_network.specs.Once.{entered_as}
-use Rattle.seen_windows.specs.EventEntries.{HasNoEvent, entered_place}
+use Rattle.seen_network.specs.EventEntries.{HasNoEvent, entered_place}
 use Rattle.window_audit.proofs.event_entries.entered.Given as goal
 
 abbrev pub invariant-loop-place : goal.invariant-loop-place

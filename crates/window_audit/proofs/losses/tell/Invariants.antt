@@ -1,7 +1,7 @@
 use Rattle.std.proofs.Common.{◌≡◌, ◌≤◌, ◌+◌, drop}
 use Rattle.seen_network.specs.Seen.{Seen}
 use Rattle.seen_state.specs.SeenState.{Knows}
-use Rattle.seen_windows.specs.EventEntries.{HasNoEvent}
+use Rattle.seen_network.specs.EventEntries.{HasNoEvent}
 use Rattle.window_audit.specs.Losses.{AreWithin}
 use Rattle.window_audit.proofs.LossLemmas.{IsToldSoFar}
 use Rattle.window_audit.proofs.losses.tell.Given as goal

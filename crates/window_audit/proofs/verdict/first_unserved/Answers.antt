@@ -2,8 +2,8 @@
 use Rattle.std.proofs.Common.{◌≡◌, ◌+◌, ◌++◌, ◌∷◌, ◌∙◌, [], ℕ, Bool, List, Option, Some, ap, arith, subst, sym, take}
 use Rattle.std.proofs.lemmas.Grind.{take_at_read}
 use Rattle.std.proofs.lemmas.List.{take_all}
-use Rattle.seen_windows.specs.Verdict.{IsFirstOwed}
-use Rattle.seen_windows.specs.declared.window.Window.{Window}
+use Rattle.seen_network.specs.Verdict.{IsFirstOwed}
+use Rattle.seen_network.specs.declared.window.Window.{Window}
 use Rattle.window_audit.specs.Verdict.{Judges}
 use Rattle.window_audit.proofs.VerdictLemmas.{one_served, one_unserved}
 use Rattle.window_audit.proofs.verdict.first_unserved.Goals.{then-not-is_served, else-not-is_served}

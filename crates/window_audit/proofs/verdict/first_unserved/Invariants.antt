@@ -1,6 +1,6 @@
 use Rattle.std.proofs.Common.{List, take}
 use Rattle.net_base.specs.declared.trace.entry.Entry.{Entry}
-use Rattle.seen_windows.specs.Verdict.{IsFirstOwed}
+use Rattle.seen_network.specs.Verdict.{IsFirstOwed}
 use Rattle.window_audit.specs.Exits.{HasExits}
 use Rattle.window_audit.proofs.verdict.first_unserved.Given as goal
 

@@ -3,7 +3,7 @@ use Rattle.std.proofs.Common.{◌∙◌, List, length, slice_index_or, refl, ap,
 use Rattle.std.proofs.lemmas.Result.{err_from_is_err_and}
 use Rattle.ldp_discovery.specs.Adjacencies.{AdjacencyLists}
 use Rattle.ldp_discovery.specs.Live.{ticked}
-use Rattle.adjacency_table.specs.Histories.{AreAfter, ends_by_tick, with_deed}
+use Rattle.ldp_discovery.specs.Histories.{AreAfter, ends_by_tick, with_deed}
 use Rattle.discovery_net.specs.Lists.{DiscoveryLists}
 use Rattle.discovery_net.proofs.LapseLemmas.{taken_all, taken_next, taken_passed, taken_stopped}
 use Rattle.discovery_net.proofs.discovery_net.DiscoveryNet.age.Goals as goal

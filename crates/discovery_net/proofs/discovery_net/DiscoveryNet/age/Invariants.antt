@@ -1,7 +1,7 @@
 -- The adjacencies with the peers so far that ended are taken down.
 use Rattle.std.proofs.Common.{◌≡◌, ℕ, List, length, slice_index_or, false}
 use Rattle.ldp_discovery.specs.Live.{Deed, ticked}
-use Rattle.adjacency_table.specs.Histories.{AreAfter, with_deed}
+use Rattle.ldp_discovery.specs.Histories.{AreAfter, with_deed}
 use Rattle.discovery_net.proofs.LapseLemmas.{AreTaken}
 use Rattle.discovery_net.proofs.discovery_net.DiscoveryNet.age.Given as goal
 

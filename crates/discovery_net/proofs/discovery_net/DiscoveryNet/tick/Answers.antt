@@ -4,7 +4,7 @@ use Rattle.std.proofs.Common.{◌∙◌, ℕ, List, length, ap, refl, sym, subst
 use Rattle.std.proofs.lemmas.Result.{err_from_is_err_and}
 use Rattle.net_base.specs.declared.plan.Plan.{Plan}
 use Rattle.ldp_discovery.specs.Adjacencies.{AdjacencyLists}
-use Rattle.adjacency_table.specs.Histories.{AreAfter}
+use Rattle.ldp_discovery.specs.Histories.{AreAfter}
 use Rattle.discovery_net.specs.Lists.{DiscoveryLists}
 use Rattle.discovery_net.proofs.LapseLemmas.{aged_next, aged_stopped, tick_acts_of, tick_after, ticked_below, ticked_next}
 use Rattle.discovery_net.proofs.discovery_net.DiscoveryNet.tick.Goals as goal

@@ -1,7 +1,7 @@
 -- The edges so far have counted their tick.
 use Rattle.std.proofs.Common.{◌≡◌, ℕ, List, length, false}
 use Rattle.ldp_discovery.specs.Live.{Deed}
-use Rattle.adjacency_table.specs.Histories.{AreAfter}
+use Rattle.ldp_discovery.specs.Histories.{AreAfter}
 use Rattle.discovery_net.proofs.LapseLemmas.{AreAged, ticked_below}
 use Rattle.discovery_net.proofs.discovery_net.DiscoveryNet.tick.Given as goal
 

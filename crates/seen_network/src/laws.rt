@@ -1,5 +1,11 @@
-//! What becomes of windows.
-ghost use Rattle.seen_windows.specs.Laws.{WindowsGoOn, WindowsTell};
+//! What traces show, and what becomes of windows.
+ghost use Rattle.seen_network.specs.Laws.{SeenOn, WindowsGoOn, WindowsTell};
+
+/// Entries behind others show what they show behind what those showed, so that a trace can be read event by event as it comes.
+#[tactic(auto, using(crate::proofs::ReadLemmas::in_parts))]
+pub fn seen_on()
+    ensures { SeenOn }
+{}
 
 /// The windows that one event more leaves open are those that a trace with this event has open, and those that it closes and that were
 /// flooded are, with those before, those whose frames have to leave once at each site.

@@ -1,5 +1,5 @@
-use Rattle.seen_windows.proofs.PastLemmas.{still_open, still_owed}
-use Rattle.seen_windows.proofs.laws.windows_go_on.Goals as goal
+use Rattle.seen_network.proofs.WindowLemmas.{still_open, still_owed}
+use Rattle.seen_network.proofs.laws.windows_go_on.Goals as goal
 
 pub returns : goal.returns
 returns c = λ plan done event rest bare found lasting owed lasting2 owed2 are_open are_owed is_opened passed. (

@@ -9,9 +9,9 @@ use Rattle.net_base.specs.declared.trace.entry.Entry.{Entry}
 use Rattle.hvpls_spokes.specs.PortSet.{holds_port}
 use Rattle.seen_network.specs.Once.{SeenServed, SeenWithin, is_circuit_row_of, is_seen_site, times_seen}
 use Rattle.seen_network.specs.Seen.{seen_in}
-use Rattle.seen_windows.specs.Past.{AreOwed, Describes, IsOwed, Lists}
-use Rattle.seen_windows.specs.Verdict.{IsFirstOwed, IsOwing, IsServed, OnceAnswers, Unserved}
-use Rattle.seen_windows.specs.declared.window.Window.{Window}
+use Rattle.seen_network.specs.Windows.{AreOwed, Describes, IsOwed, Lists}
+use Rattle.seen_network.specs.Verdict.{IsFirstOwed, IsOwing, IsServed, OnceAnswers, Unserved}
+use Rattle.seen_network.specs.declared.window.Window.{Window}
 
 -- no row stands behind the last one
 no_row : (xs : List CircuitPlan) (n : ℕ) → nat_lt n (length xs) ≡ false → slice_get xs n ≡ None

@@ -9,9 +9,9 @@ use Rattle.net_base.specs.declared.trace.event.Event.TheVariants.{Frame}
 use Rattle.seen_network.specs.Once.{OnceSeen, SeenServed, SeenWindow, SeenWithin, times_seen}
 use Rattle.seen_network.specs.Seen.{BeginsEvent, seen_in}
 use Rattle.hvpls_spokes.specs.PortSet.{holds_port}
-use Rattle.seen_windows.specs.EventEntries.{entered_place}
-use Rattle.seen_windows.specs.Past.{AmongWindows}
-use Rattle.seen_windows.specs.declared.window.Window.{Window}
+use Rattle.seen_network.specs.EventEntries.{entered_place}
+use Rattle.seen_network.specs.Windows.{AmongWindows}
+use Rattle.seen_network.specs.declared.window.Window.{Window}
 
 -- a window whose frame did not leave once at each site and nowhere else; so many entries stand before the one by which it entered
 pub record Unserved (plan : Plan) (trace : List Entry) (place : ℕ) : Type 0 where

@@ -15,10 +15,10 @@ use Rattle.net_values.proofs.BoolLemmas.{first_holds, second_holds, and_true}
 use Rattle.seen_network.specs.Once.{SeenWindow, all_spared, has_seen, is_seen_flooded, is_sourced_by, spares_seen}
 use Rattle.seen_network.specs.Seen.{BeginsEvent, Seen, happened_or, is_idle_behind, nothing_seen, seen_from, seen_in}
 use Rattle.seen_network.proofs.ReadLemmas.{seen_on}
-use Rattle.seen_windows.specs.EventEntries.{HasNoEvent}
-use Rattle.seen_windows.specs.Past.{AmongWindows, AreWindowsOpen, AreOwed, Closes, Describes, GoesTo, HasOpened, HasPassedWindows, IsLeftOpen, IsOpen, IsOpened, IsOwed, Lists, Opens, OpensOne, WasOver, flooded_to}
-use Rattle.seen_windows.specs.declared.window.Window.{Window}
-use Rattle.seen_windows.proofs.EventLemmas.{CutBefore, CutBehind, IsLast, StandsBefore, begins_on, cut_at, ends_bare, entered_on, event_at, flooded_before, place_on, spared_none, spared_on, append_none}
+use Rattle.seen_network.specs.EventEntries.{HasNoEvent}
+use Rattle.seen_network.specs.Windows.{AmongWindows, AreWindowsOpen, AreOwed, Closes, Describes, GoesTo, HasOpened, HasPassedWindows, IsLeftOpen, IsOpen, IsOpened, IsOwed, Lists, Opens, OpensOne, WasOver, flooded_to}
+use Rattle.seen_network.specs.declared.window.Window.{Window}
+use Rattle.seen_network.proofs.EventLemmas.{CutBefore, CutBehind, IsLast, StandsBefore, begins_on, cut_at, ends_bare, entered_on, event_at, flooded_before, place_on, spared_none, spared_on, append_none}
 
 -- a frame's event shows nothing by itself
 frame_shows : (idle : Bool) (circuit : CircuitId) (octets : List ℕ) (seen : Seen) → happened_or idle (Frame circuit octets) seen ≡ seen

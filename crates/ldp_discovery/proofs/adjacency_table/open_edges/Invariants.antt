@@ -1,8 +1,8 @@
 -- The edges so far have their adjacencies.
 use Rattle.std.proofs.Common.{◌≡◌, ℕ, [], length, slice_get, IfSome}
 use Rattle.ldp_discovery.specs.Adjacencies.{IsAfter}
-use Rattle.adjacency_table.specs.Histories.{IsOfEdge}
-use Rattle.adjacency_table.proofs.adjacency_table.open_edges.Given as goal
+use Rattle.ldp_discovery.specs.Histories.{IsOfEdge}
+use Rattle.ldp_discovery.proofs.adjacency_table.open_edges.Given as goal
 
 abbrev pub invariant-loop-place : goal.invariant-loop-place
 invariant-loop-place l = record {

@@ -16,8 +16,8 @@ use Rattle.hvpls_spokes.specs.PortSet.{holds_port}
 use Rattle.seen_network.specs.Calm.{is_seen_calm}
 use Rattle.seen_network.specs.Once.{SeenWindow, all_spared, entered_as, has_seen, is_seen_site, is_sourced_by, spares_seen}
 use Rattle.seen_network.specs.Seen.{BeginsEvent, Seen, is_idle_behind, seen_in}
-use Rattle.seen_windows.specs.EventEntries.{entered_place}
-use Rattle.seen_windows.specs.declared.window.Window.{Window}
+use Rattle.seen_network.specs.EventEntries.{entered_place}
+use Rattle.seen_network.specs.declared.window.Window.{Window}
 
 -- a frame entered a calm service by an event behind the entries `before`; `during` are the entries behind the event
 pub record HasOpened (plan : Plan) (before : List Entry) (circuit : CircuitId) (octets : List ℕ) (during : List Entry) (service : ServiceId) (origin : ℕ) : Type 0 where

@@ -3,9 +3,11 @@ ghost use Rattle.std.specs.Prelude.{◌≡◌, ◌<◌, ◌≤◌, ◌^◌, ℕ,
 ghost use Rattle.net_values.specs.declared.addr.Addr.{Addr};
 ghost use Rattle.net_base.specs.{declared.plan.Plan.{Plan}, plan.Accepted.{IsChecked}, plan.Paths.{are_joined, edge_address}};
 ghost use Rattle.ldp_discovery.specs.{Adjacencies.{id_behind}, Hellos.{hello_octets}, Live.{Deed, heard, live, said, ticked}};
-ghost use Rattle.adjacency_table.specs.Histories.{AreAfter, AreEdgesOf, ends_by_tick, with_deed};
+ghost use Rattle.ldp_discovery.specs.Histories.{AreAfter, AreEdgesOf, ends_by_tick, with_deed};
 
-use ldp_discovery::{Adjacencies, HELLO_SIZE, Lapsed};
+use crate::adjacencies::Adjacencies;
+use crate::hello::HELLO_SIZE;
+use crate::lapsed::Lapsed;
 use net_base::{EdgeId, NoMemory, Plan};
 use std::alloc::Global;
 use std::marker::Model;
@@ -18,8 +20,7 @@ pub struct AdjacencyTable {
 
 impl Model for AdjacencyTable {
     ghost use Rattle.std.specs.Prelude.{List};
-    ghost use Rattle.ldp_discovery.specs.Adjacencies.{AdjacencyLists};
-    ghost use Rattle.adjacency_table.specs.Histories.{AreSized};
+    ghost use Rattle.ldp_discovery.specs.{Adjacencies.{AdjacencyLists}, Histories.{AreSized}};
 
     ghost Value = { List AdjacencyLists };
 

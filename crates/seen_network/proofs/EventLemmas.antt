@@ -12,7 +12,7 @@ use Rattle.net_base.specs.trace.Frame.{destination_of, goes_to_group}
 use Rattle.seen_network.specs.Once.{all_spared, entered_as, is_seen_flooded, is_sourced_by, spares_seen}
 use Rattle.seen_network.specs.Seen.{BeginsEvent, Seen, happened_or, is_idle_behind, seen_from, told_by_itself}
 use Rattle.seen_network.proofs.ReadLemmas.{idle_behind}
-use Rattle.seen_windows.specs.EventEntries.{HasNoEvent, entered_place, tells_idle}
+use Rattle.seen_network.specs.EventEntries.{HasNoEvent, entered_place, tells_idle}
 
 -- ---- entries without events
 

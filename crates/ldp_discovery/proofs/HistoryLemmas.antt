@@ -20,7 +20,7 @@ use Rattle.ldp_discovery.specs.Live.{Deed, said, heard, ticked, AreHolds, is_adj
 use Rattle.ldp_discovery.proofs.AdjacencyLemmas.{deeds_kept, lives_is}
 use Rattle.ldp_discovery.proofs.HearLemmas.{hellos_heard}
 use Rattle.ldp_discovery.proofs.LiveLemmas.{stands}
-use Rattle.adjacency_table.specs.Histories.{AreAfter, AreEdgesOf, AreSized, IsOfEdge, ends_by_tick, with_deed}
+use Rattle.ldp_discovery.specs.Histories.{AreAfter, AreEdgesOf, AreSized, IsOfEdge, ends_by_tick, with_deed}
 
 -- ---- one item of a list is another one
 

@@ -1,4 +1,0 @@
-pub mod EventEntries
-pub mod Laws
-pub mod Past
-pub mod Verdict
