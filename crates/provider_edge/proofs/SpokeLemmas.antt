@@ -1,11 +1,13 @@
 -- The spokes of a spoke edge by their slots, and the choice among them.
-use Rattle.std.proofs.Common.{◌≡◌, ◌<◌, ◌≤◌, ◌+◌, ◌++◌, ◌∙◌, ◌⊎◌, ◌&&◌, ℕ, zero, suc, Bool, true, false, cond, is_some, not, filter, map, nat_eq, nat_lt, List, [], ◌∷◌, Option, Some, None, length, drop, slice_get, slice_index_or, option_and_then, option_map, set, take, append_assoc, append-nil, refl, ap, sym, subst, inl, inr, arith}
+use Rattle.std.proofs.Common.{◌≡◌, ◌<◌, ◌≤◌, ◌+◌, ◌++◌, ◌∙◌, ◌⊎◌, ◌&&◌, ℕ, zero, suc, Bool, true, false, cond, is_some, not, filter, map, nat_eq, nat_lt, position, ◌||◌, List, [], ◌∷◌, Option, Some, None, length, drop, slice_get, slice_index_or, option_and_then, option_map, set, take, append_assoc, append-nil, refl, ap, sym, subst, inl, inr, arith}
 use Rattle.std.proofs.lemmas.Bool.{cases_order, eq-eqb, eqb-true}
 use Rattle.std.proofs.lemmas.Bool.Decides.{nat_tests}
-use Rattle.std.proofs.lemmas.List.{drop_all, drop_more, length_push}
+use Rattle.std.proofs.lemmas.List.{drop_all, drop_more, length_push, length-map}
 use Rattle.std.specs.Bool.{Decides}
+use Rattle.std.specs.List.{list_any, position_or_len}
 use Rattle.std.specs.Cmp.Lexicographic.{pointwise, pointwise_decides}
 use Rattle.std.specs.Option.{option_eq}
+use Rattle.net_values.proofs.BoolLemmas.{or_assoc, or_false}
 use Rattle.net_values.proofs.RowLemmas.{row_holds, same_read, last_of}
 use Rattle.net_base.specs.declared.plan.Plan.{Plan}
 use Rattle.net_base.specs.declared.plan.places.EdgeId.{EdgeId}
@@ -25,12 +27,14 @@ use Rattle.edge_model.specs.Spokes.{choice, choosing, is_spoke_row, is_usable, s
 use Rattle.edge_model.specs.State.{EdgeState, put_at, with_chosen}
 use Rattle.spoke_redundancy.specs.declared.spoke.Spoke.{Spoke}
 use Rattle.spoke_redundancy.specs.Choice.{chosen}
+use Rattle.spoke_redundancy.specs.Least.{IsLeast, is_least, is_less, is_usable_below}
+use Rattle.spoke_redundancy.proofs.ChoiceLemmas.{chosen_is}
 use Rattle.pw_ends.specs.Ends.{EndLists, end_in, no_place, place_of}
 use Rattle.edge_forwarding.proofs.EachLemmas.{before_push, each_next}
 use Rattle.edge_forwarding.proofs.Views.{past_end}
 use Rattle.provider_edge.specs.Invariant.{IsEdge}
 use Rattle.provider_edge.specs.Lists.{EdgeLists, seen}
-use Rattle.provider_edge.specs.Spokes.{AreSlots, slots_for, slots_where, starts_spoke, unchosen}
+use Rattle.provider_edge.specs.Spokes.{AreSlots, place_where, slots_for, slots_where, starts_spoke, unchosen}
 
 -- ---- slots by services
 
@@ -267,18 +271,6 @@ wire_named plan me ends service slots i d place placed are below at =
     ∙ (ap (option_map (λ (end : EndPlace). end.wire)) (slot_names (starts_spoke plan me (record { 0 = service })) ends.places i d below)
     ∙ ap (λ (p : EndPlace). Some p.wire) (sym (at ∙ ap (λ (l : List ℕ). place_of ends (slice_index_or l i d)) are)))
 
--- one spoke more
-pub spokes_more : (f : ℕ → Spoke) (slots : List ℕ) (i d : ℕ) (spokes now : List Spoke) (one : Spoke) → i < length slots → spokes ++ map f (drop i slots) ≡ map f slots → one
-    ≡ f (slice_index_or slots i d) → now ≡ spokes ++ one ∷ []
-    → now ++ map f (drop (i + 1) slots) ≡ map f slots
-spokes_more f slots i d spokes now one below so_far is pushed =
-    ap (λ (l : List Spoke). l ++ map f (drop (i + 1) slots)) (pushed ∙ ap (λ (s : Spoke). spokes ++ s ∷ []) is)
-    ∙ (append_assoc spokes (f (slice_index_or slots i d) ∷ []) (map f (drop (i + 1) slots))
-    ∙ (ap (λ (l : List ℕ). spokes ++ map f l) (sym (drop_more slots i d below)) ∙ so_far))
-
-pub spokes_end : (f : ℕ → Spoke) (slots : List ℕ) (i : ℕ) (spokes : List Spoke) → length slots ≤ i → spokes ++ map f (drop i slots) ≡ map f slots → spokes ≡ map f slots
-spokes_end f slots i spokes past so_far = sym (append-nil spokes) ∙ (ap (λ (l : List ℕ). spokes ++ map f l) (sym (drop_all i slots past)) ∙ so_far)
-
 -- the spokes by their slots are those of the edge
 pub spokes_read : (c : EdgeLists) (service : ℕ) (slots : List ℕ) (spokes : List Spoke) → c.ends.places ≡ end_places c.plan c.me → slots ≡ slots_for c.plan c.me c.ends.places service
     → spokes ≡ map (λ slot. spoke_at (seen c) (place_of c.ends slot)) slots → spokes ≡ spokes_of c.plan (seen c) (record { 0 = service })
@@ -288,6 +280,92 @@ spokes_read c service slots spokes placed are is =
     ∙ (ap (map (λ slot. spoke_at (seen c) (place_of c.ends slot))) are
     ∙ (by_all_slots (spoke_at (seen c)) (starts_spoke c.plan c.me (record { 0 = service })) c.ends.places
     ∙ ap (λ (l : List EndPlace). map (spoke_at (seen c)) (filter (starts_spoke c.plan c.me (record { 0 = service })) l)) placed))
+
+-- the least number of one spoke more
+pub least_next : (f : ℕ → Spoke) (slots : List ℕ) (i d : ℕ) (least next : Option ℕ) → i < length slots
+    → ((number : ℕ) → (is_less least number || list_any (is_usable_below number) (map f (drop i slots))) ≡ list_any (is_usable_below number) (map f slots))
+    → ((number : ℕ) → (is_less least number || is_usable_below number (f (slice_index_or slots i d))) ≡ is_less next number)
+    → (number : ℕ) → (is_less next number || list_any (is_usable_below number) (map f (drop (i + 1) slots))) ≡ list_any (is_usable_below number) (map f slots)
+least_next f slots i d least next below so_far lesser number =
+    let test = is_usable_below number in
+    let rest = list_any test (map f (drop (i + 1) slots)) in
+    ap (λ (b : Bool). b || rest) (sym (lesser number))
+    ∙ (or_assoc (is_less least number) (test (f (slice_index_or slots i d))) rest
+    ∙ (ap (λ (l : List ℕ). is_less least number || list_any test (map f l)) (sym (drop_more slots i d below)) ∙ so_far number))
+
+-- where all were looked at it is the least of all
+pub least_all : (c : EdgeLists) (service : ℕ) (slots : List ℕ) (i : ℕ) (least : Option ℕ) → c.ends.places ≡ end_places c.plan c.me → slots ≡ slots_for c.plan c.me c.ends.places service
+    → length slots ≤ i
+    → ((number : ℕ) → (is_less least number || list_any (is_usable_below number) (map (λ slot. spoke_at (seen c) (place_of c.ends slot)) (drop i slots)))
+    ≡ list_any (is_usable_below number) (map (λ slot. spoke_at (seen c) (place_of c.ends slot)) slots))
+    → IsLeast (spokes_of c.plan (seen c) (record { 0 = service })) least
+least_all c service slots i least placed are past so_far = record {
+  below = λ number.
+      let f : ℕ → Spoke = λ slot. spoke_at (seen c) (place_of c.ends slot) in
+      sym (ap (list_any (is_usable_below number)) (spokes_read c service slots (map f slots) placed are refl))
+      ∙ (sym (so_far number)
+      ∙ (ap (λ (l : List ℕ). is_less least number || list_any (is_usable_below number) (map f l)) (drop_all i slots past) ∙ or_false (is_less least number)));
+}
+
+-- the place of the first that passes, as the list of spokes has it
+place_is : (test : ℕ → Bool) (p : ℕ) (slots : List ℕ) → place_where test p slots ≡ cond (nat_lt (position_or_len test slots) (length slots)) (Some (p + position_or_len test slots)) None
+place_is test p [] = refl
+place_is test p (slot ∷ slots) = by (test slot) (place_is test (p + 1) slots) where
+  n : ℕ
+  n = position_or_len test slots
+
+  by : (b : Bool) → place_where test (p + 1) slots ≡ cond (nat_lt n (length slots)) (Some (p + 1 + n)) None
+      → cond b (Some p) (place_where test (p + 1) slots) ≡ cond (nat_lt (cond (not b) (1 + n) 0) (length (slot ∷ slots))) (Some (p + cond (not b) (1 + n) 0)) None
+  by true rest =
+      let first : true ≡ nat_lt 0 (length (slot ∷ slots)) = grind (arith, nat_tests) in
+      let here : p ≡ p + 0 = omega arith in
+      λ i. cond (first i) (Some (here i)) None
+  by false rest =
+      let later : nat_lt n (length slots) ≡ nat_lt (1 + n) (length (slot ∷ slots)) = grind (arith, nat_tests) in
+      let there : p + 1 + n ≡ p + (1 + n) = omega arith in
+      rest ∙ (λ i. cond (later i) (Some (there i)) None)
+
+mapped : {X : Type 0} (test : X → Bool) (f : ℕ → X) (slots : List ℕ) → position_or_len (λ slot. test (f slot)) slots ≡ position_or_len test (map f slots)
+mapped test f [] = refl
+mapped test f (slot ∷ slots) = ap (λ (n : ℕ). cond (not (test (f slot))) (1 + n) 0) (mapped test f slots)
+
+-- one slot more is not of such a spoke
+pub place_next : (test : ℕ → Bool) (slots : List ℕ) (i d : ℕ) (found : Option ℕ) → i < length slots → test (slice_index_or slots i d) ≡ false → place_where test i (drop i slots) ≡ found
+    → place_where test (i + 1) (drop (i + 1) slots) ≡ found
+place_next test slots i d found below fails so_far =
+    sym (ap (λ (l : List ℕ). place_where test i l) (drop_more slots i d below) ∙ ap (λ (b : Bool). cond b (Some i) (place_where test (i + 1) (drop (i + 1) slots))) fails) ∙ so_far
+
+pub place_here : (test : ℕ → Bool) (slots : List ℕ) (i d : ℕ) (found : Option ℕ) → i < length slots → test (slice_index_or slots i d) ≡ true → place_where test i (drop i slots) ≡ found
+    → Some i ≡ found
+place_here test slots i d found below passes so_far =
+    sym (ap (λ (l : List ℕ). place_where test i l) (drop_more slots i d below) ∙ ap (λ (b : Bool). cond b (Some i) (place_where test (i + 1) (drop (i + 1) slots))) passes) ∙ so_far
+
+pub place_none : (test : ℕ → Bool) (slots : List ℕ) (i : ℕ) (found : Option ℕ) → length slots ≤ i → place_where test i (drop i slots) ≡ found → None ≡ found
+place_none test slots i found past so_far = sym (ap (λ (l : List ℕ). place_where test i l) (drop_all i slots past)) ∙ so_far
+
+-- the place that is found is that of the spoke that is chosen
+pub place_chosen : (c : EdgeLists) (service : ℕ) (slots : List ℕ) (least found : Option ℕ) → c.ends.places ≡ end_places c.plan c.me → slots ≡ slots_for c.plan c.me c.ends.places service
+    → IsLeast (spokes_of c.plan (seen c) (record { 0 = service })) least
+    → found ≡ place_where (λ slot. is_least least (spoke_at (seen c) (place_of c.ends slot))) 0 slots → found ≡ chosen (spokes_of c.plan (seen c) (record { 0 = service }))
+place_chosen c service slots least found placed are is at =
+    let f : ℕ → Spoke = λ slot. spoke_at (seen c) (place_of c.ends slot) in
+    let first : 0 + position_or_len (λ slot. is_least least (f slot)) slots ≡ position_or_len (λ slot. is_least least (f slot)) slots = omega arith in
+    let place : 0 + position_or_len (λ slot. is_least least (f slot)) slots ≡ position_or_len (is_least least) (map f slots) = first ∙ mapped (is_least least) f slots in
+    let size : length slots ≡ length (map f slots) = sym (length-map slots f) in
+    at
+    ∙ (place_is (λ slot. is_least least (f slot)) 0 slots
+    ∙ ((λ i. cond (nat_lt (mapped (is_least least) f slots i) (size i)) (Some (place i)) None)
+    ∙ (ap (position (is_least least)) (spokes_read c service slots (map f slots) placed are refl)
+    ∙ chosen_is (spokes_of c.plan (seen c) (record { 0 = service })) least is)))
+
+-- a number that is no less than the least one is less than no other by itself
+pub less_by : (least priority : ℕ) → least ≤ priority → (number : ℕ) (usable : Bool) → (nat_lt least number || (usable && nat_lt priority number)) ≡ nat_lt least number
+less_by least priority within number true = grind (arith, nat_tests)
+less_by least priority within number false = or_false (nat_lt least number)
+
+-- and what is less than it is less than what the least one is less than
+pub less_before : (least priority : ℕ) → priority < least → (number : ℕ) → (nat_lt least number || nat_lt priority number) ≡ nat_lt priority number
+less_before least priority below number = grind (arith, nat_tests)
 
 pub choice_read : (c : EdgeLists) (service place : ℕ) (spokes : List Spoke) (wire : WireId) → spokes ≡ spokes_of c.plan (seen c) (record { 0 = service }) → Some place ≡ chosen spokes
     → option_map (λ (end : EndPlace). end.wire) (slice_get (spoke_places c.plan c.me (record { 0 = service })) place) ≡ Some wire → Some wire ≡ choice c.plan (seen c) (record { 0 = service })

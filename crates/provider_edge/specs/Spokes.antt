@@ -1,5 +1,5 @@
 -- The spokes of a spoke edge, as contracts see them.
-use Rattle.std.specs.Prelude.{◌≡◌, ◌<◌, ◌+◌, ℕ, Bool, List, [], ◌∷◌, Option, None, length, replicate, slice_index_or, if◌then◌else◌}
+use Rattle.std.specs.Prelude.{◌≡◌, ◌<◌, ◌+◌, ℕ, Bool, List, [], ◌∷◌, Option, Some, None, length, replicate, slice_index_or, if◌then◌else◌}
 use Rattle.net_base.specs.declared.plan.Plan.{Plan}
 use Rattle.net_base.specs.declared.plan.places.EdgeId.{EdgeId}
 use Rattle.net_base.specs.declared.plan.places.ServiceId.{ServiceId}
@@ -22,6 +22,11 @@ slots_in spokes service = slice_index_or spokes.slots service []
 abbrev pub slots_where : (EndPlace → Bool) → ℕ → List EndPlace → List ℕ
 slots_where test slot [] = []
 slots_where test slot (place ∷ places) = if test place then slot ∷ slots_where test (slot + 1) places else slots_where test (slot + 1) places
+
+-- the place, counted from one on, of the first slot that passes a test
+abbrev pub place_where : (ℕ → Bool) → ℕ → List ℕ → Option ℕ
+place_where test place [] = None
+place_where test place (slot ∷ slots) = if test slot then Some place else place_where test (place + 1) slots
 
 -- the end is that of a spoke of the service that starts at the edge
 abbrev pub starts_spoke : Plan → EdgeId → ServiceId → EndPlace → Bool

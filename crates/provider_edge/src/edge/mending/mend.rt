@@ -43,7 +43,7 @@ impl Edge {
     {
         let before = self.all_chosen(work.alloc)?;
         let refused = self.mend_ends(work)?;
-        self.choose_spokes(work.alloc)?;
+        self.choose_spokes();
         let untold = self.mend_statuses(refused, work)?;
         let failed = self.mend_choices(before.as_slice(), untold, work)?;
         self.settle_downs(&mut work.effects.list)?;

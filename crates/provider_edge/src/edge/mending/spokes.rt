@@ -1,45 +1,44 @@
 //! A spoke edge chooses among its spokes (RFC 6870, RFC 4762 section 10.2.1).
-ghost use Rattle.std.specs.Prelude.{◌≡◌, ◌<◌, ◌≤◌, ℕ, Some, None, true, length, IfOk, OnOk};
+ghost use Rattle.std.specs.Prelude.{◌≡◌, ◌<◌, ◌≤◌, ◌&&◌, ◌||◌, ℕ, Bool, Some, None, true, false, length, nat_lt, IfOk, IfSome};
 ghost use Rattle.net_base.specs.plan.Places.{wire_row};
 ghost use Rattle.edge_model.specs.{EndPlaces.{end_places}, Spokes.{choice, choosing, spoke_at, spokes_of}};
 ghost use Rattle.edge_model.specs.{State.{put_at, with_chosen}, Wire.{is_own_spoke}};
 ghost use Rattle.pw_ends.specs.Ends.{place_of};
 ghost use Rattle.provider_edge.specs.{Spokes.{slots_for}, Lists.{Keeps, seen}};
 ghost use Rattle.edge_forwarding.specs.Views.{view};
+ghost use Rattle.spoke_redundancy.specs.{Choice.{chosen}, Least.{IsLeast, is_least, is_less, is_usable_below}};
 
 use crate::Edge;
 use crate::spokes::is_own_spoke;
 use net_base::{NoMemory, WireId};
 use pw_signalling::EndRole;
-use spoke_redundancy::{Spoke, choose};
+use spoke_redundancy::Spoke;
 use std::alloc::Global;
 
 impl Edge {
     // The edge chooses for each service.
-    pub(crate) fn choose_spokes(&mut self, alloc: Global) -> Result<(), NoMemory>
+    pub(crate) fn choose_spokes(&mut self)
         requires working { self.old.stopped ≡ true }
         ensures keeps { Keeps self.old self.new }
-        ensures step { OnOk result (seen self.new ≡ choosing self.old.plan (seen self.old)) }
+        ensures step { seen self.new ≡ choosing self.old.plan (seen self.old) }
     {
         for service in 0..self.count_services() {
-            self.choose_spoke(alloc, service)?;
+            self.choose_spoke(service);
         }
-        Ok(())
     }
 
     // The edge chooses for a service. One of which no spoke has a mark has its choice.
-    fn choose_spoke(&mut self, alloc: Global, service: usize) -> Result<(), NoMemory>
+    fn choose_spoke(&mut self, service: usize)
         requires working { self.old.stopped ≡ true }
         requires within { service < length self.old.plan.services }
         ensures keeps { Keeps self.old self.new }
-        ensures step { OnOk result (seen self.new ≡ with_chosen (put_at (seen self.old).chosen service (choice self.old.plan (seen self.old) (record { 0 = service }))) (seen self.old)) }
+        ensures step { seen self.new ≡ with_chosen (put_at (seen self.old).chosen service (choice self.old.plan (seen self.old) (record { 0 = service }))) (seen self.old) }
     {
         if self.passes_by(service) {
-            return Ok(());
+            return;
         }
-        let chosen = self.choice(alloc, service)?;
+        let chosen = self.choice(service);
         self.set_chosen(service, chosen);
-        Ok(())
     }
 
     // How many services the plan has; none is chosen for a service past them, and the edge would choose none:
@@ -76,33 +75,73 @@ impl Edge {
         self.spokes.has_choice(service, chosen)
     }
 
-    // The wire of the spoke that it chooses for a service.
-    fn choice(&self, alloc: Global, service: usize) -> Result<Option<WireId>, NoMemory>
+    // The wire of the spoke that it chooses for a service: of the usable ones the first with the least priority number. Spokes are asked
+    // whether they are usable only where their numbers are small enough, since each that comes up is compared with all others.
+    fn choice(&self, service: usize) -> Option<WireId>
         requires { service < length self.now.plan.services }
-        ensures { IfOk result (λ wire. wire ≡ choice self.now.plan (seen self.now) (record { 0 = service })) }
+        ensures { result ≡ choice self.now.plan (seen self.now) (record { 0 = service }) }
     {
-        let spokes = self.spokes_of(alloc, service)?;
-        match choose(spokes.as_slice()) {
+        let least = self.least_priority(service);
+        match self.place_with(service, least) {
             Some(place) => {
                 let slot = self.slots_of(service)[place];
-                Ok(Some(self.place_at(slot).wire))
+                Some(self.place_at(slot).wire)
             }
-            None => Ok(None),
+            None => None,
         }
     }
 
-    // Its spokes of a service, as the choice sees them.
-    fn spokes_of(&self, alloc: Global, service: usize) -> Result<Vec<Spoke>, NoMemory>
+    // The least priority number of the usable spokes of a service; `None` where none is usable.
+    fn least_priority(&self, service: usize) -> Option<u8>
         requires { service < length self.now.plan.services }
-        ensures count { IfOk result (λ spokes. length spokes.items ≡ length (slots_for self.now.plan self.now.me self.now.ends.places service)) }
-        ensures spokes { IfOk result (λ spokes. spokes.items ≡ spokes_of self.now.plan (seen self.now) (record { 0 = service })) }
+        ensures { IsLeast (spokes_of self.now.plan (seen self.now) (record { 0 = service })) result }
+    {
+        let mut least = None;
+        let slots = self.slots_of(service);
+        for slot in slots {
+            least = self.lesser(least, *slot);
+        }
+        least
+    }
+
+    // The lesser one of a priority number and that of the spoke of an end, if it is usable.
+    fn lesser(&self, least: Option<u8>, slot: usize) -> Option<u8>
+        requires { slot < length self.now.ends.places }
+        ensures { (number : ℕ) → (is_less least number || is_usable_below number (spoke_at (seen self.now) (place_of self.now.ends slot))) ≡ is_less result number }
+    {
+        let priority = self.priority_at(slot);
+        if is_at_most(least, priority) || !self.spoke_at(slot).usable {
+            return least;
+        }
+        Some(priority)
+    }
+
+    // The place among the spokes of a service of the first usable one of which the priority number is no greater than the least one.
+    fn place_with(&self, service: usize, least: Option<u8>) -> Option<usize>
+        requires within { service < length self.now.plan.services }
+        requires least { IsLeast (spokes_of self.now.plan (seen self.now) (record { 0 = service })) least }
+        ensures chosen { result ≡ chosen (spokes_of self.now.plan (seen self.now) (record { 0 = service })) }
+        ensures place { IfSome result (λ place. place < length (slots_for self.now.plan self.now.me self.now.ends.places service)) }
     {
         let slots = self.slots_of(service);
-        let mut spokes = Vec::with_capacity(alloc, slots.len())?;
-        for slot in slots {
-            spokes.push(self.spoke_at(*slot))?;
+        for (place, slot) in slots.iter().enumerate() {
+            if self.has_least(least, *slot) {
+                return Some(place);
+            }
         }
-        Ok(spokes)
+        None
+    }
+
+    // Whether the spoke of an end is usable, and its priority number no greater than the least one.
+    fn has_least(&self, least: Option<u8>, slot: usize) -> bool
+        requires { slot < length self.now.ends.places }
+        ensures { result ≡ is_least least (spoke_at (seen self.now) (place_of self.now.ends slot)) }
+    {
+        let spoke = self.spoke_at(slot);
+        match least {
+            Some(priority) => spoke.priority <= priority && spoke.usable,
+            None => spoke.usable,
+        }
     }
 
     // The slots of its ends of the spokes of a service.
@@ -112,6 +151,14 @@ impl Edge {
         ensures places { self.now.ends.places ≡ end_places self.now.plan self.now.me }
     {
         self.spokes.slots(service)
+    }
+
+    // The priority number of the spoke of an end.
+    fn priority_at(&self, slot: usize) -> u8
+        requires { slot < length self.now.ends.places }
+        ensures { result ≡ (spoke_at (seen self.now) (place_of self.now.ends slot)).priority }
+    {
+        self.priority_of(self.place_at(slot).wire)
     }
 
     // The spoke of an end as the choice sees it: it can be used where the end would forward if its spoke were the chosen one.
@@ -153,5 +200,17 @@ impl Edge {
         ensures { result ≡ true → view None chosen.now ≡ (seen self.now).chosen }
     {
         self.spokes.are_chosen(chosen)
+    }
+}
+
+// Whether a least number is known that is no greater than this one.
+#[tactic(auto, using(crate::proofs::SpokeLemmas::less_by, crate::proofs::SpokeLemmas::less_before))]
+fn is_at_most(least: Option<u8>, priority: u8) -> bool
+    ensures passes { result ≡ true → (number : ℕ) (usable : Bool) → (is_less least number || (usable && nat_lt priority number)) ≡ is_less least number }
+    ensures less { result ≡ false → (number : ℕ) → (is_less least number || nat_lt priority number) ≡ nat_lt priority number }
+{
+    match least {
+        Some(number) => number <= priority,
+        None => false,
     }
 }

@@ -13,4 +13,4 @@ returns-then-passes_by-clause-step c =
 pub returns-clause-step : goal.returns-clause-step
 returns-clause-step c =
     c.set_chosen.ensures.step
-    ∙ ap (λ (w : Option WireId). with_chosen (put_at (seen c.args.self.now).chosen c.args.service w) (seen c.args.self.now)) c.in_ok-chosen.ensures
+    ∙ ap (λ (w : Option WireId). with_chosen (put_at (seen c.args.self.now).chosen c.args.service w) (seen c.args.self.now)) c.choice-chosen.ensures

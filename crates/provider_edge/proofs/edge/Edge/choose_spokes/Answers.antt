@@ -15,13 +15,13 @@ loop-service-init c = record {
 
 pub loop-service-preserved : goal.loop-service-preserved
 loop-service-preserved c = record {
-  keeps = keeps_both _ _ _ c.loop-service.invariant.keeps c.in_ok-choose_spoke.ensures.keeps;
+  keeps = keeps_both _ _ _ c.loop-service.invariant.keeps c.choose_spoke.ensures.keeps;
   step =
       chosen_more c.args.self.now.plan c.loop-service.service (seen c.args.self.now) (seen c.loop-service.self) (seen c.choose_spoke.new.self)
       (choice c.loop-service.self.plan (seen c.loop-service.self) (record { 0 = c.loop-service.service }))
       (c.loop-service.invariant.step)
       (ap (λ (p : Plan). choice p (seen c.loop-service.self) (record { 0 = c.loop-service.service })) c.loop-service.invariant.keeps.plan)
-      (c.in_ok-choose_spoke.ensures.step);
+      (c.choose_spoke.ensures.step);
 }
 
 pub returns-clause-step : goal.returns-clause-step

@@ -23,38 +23,35 @@ returns-clause-step g c = λ told agrees.
     (ap (λ (l : List (Option WireId)). view None l) c.as_slice.ensures.value ∙ c.in_ok-before.ensures
     ∙ chosen_at c.args.self.now (g.L.Link.calls c.args.work.now.link.now) c.args.work.now.effects.now.list)
     (c.in_ok-refused.ensures.step told (agrees_before told _ _ c.in_ok-untold.ensures.goes.on.calls (agrees_before told _ _ c.in_ok-failed.ensures.goes.on.calls agrees)))
-    (chosen_kept c.args.self.now c.mend_ends.new.self c.choose_spokes.new.self _ _ c.in_ok-refused.refused c.in_ok-refused.ensures.goes.keeps (c.in_ok-choose_spokes.ensures.step))
-    (statuses_kept c.args.self.now c.choose_spokes.new.self told _ _ (keeps_both _ _ _ c.in_ok-refused.ensures.goes.keeps c.in_ok-choose_spokes.ensures.keeps)
+    (chosen_kept c.args.self.now c.mend_ends.new.self c.choose_spokes.new.self _ _ c.in_ok-refused.refused c.in_ok-refused.ensures.goes.keeps (c.choose_spokes.ensures.step))
+    (statuses_kept c.args.self.now c.choose_spokes.new.self told _ _ (keeps_both _ _ _ c.in_ok-refused.ensures.goes.keeps c.choose_spokes.ensures.keeps)
     (c.in_ok-untold.ensures.step told (agrees_before told _ _ c.in_ok-failed.ensures.goes.on.calls agrees)))
     (choices_kept c.args.self.now c.mend_statuses.new.self told (view None c.as_slice.result.now) _ _
-    (keeps_both _ _ _ c.in_ok-refused.ensures.goes.keeps (keeps_both _ _ _ c.in_ok-choose_spokes.ensures.keeps c.in_ok-untold.ensures.goes.keeps)) (c.in_ok-failed.ensures.step told agrees))
+    (keeps_both _ _ _ c.in_ok-refused.ensures.goes.keeps (keeps_both _ _ _ c.choose_spokes.ensures.keeps c.in_ok-untold.ensures.goes.keeps)) (c.in_ok-failed.ensures.step told agrees))
     (downs_kept c.args.self.now c.mend_choices.new.self _ _
-    (keeps_both _ _ _ c.in_ok-refused.ensures.goes.keeps (keeps_both _ _ _ c.in_ok-choose_spokes.ensures.keeps (keeps_both _ _ _ c.in_ok-untold.ensures.goes.keeps c.in_ok-failed.ensures.goes.keeps)))
+    (keeps_both _ _ _ c.in_ok-refused.ensures.goes.keeps (keeps_both _ _ _ c.choose_spokes.ensures.keeps (keeps_both _ _ _ c.in_ok-untold.ensures.goes.keeps c.in_ok-failed.ensures.goes.keeps)))
     (c.in_ok-settle_downs.ensures.step (g.L.Link.calls c.mend_choices.new.work.link.now)))
 
 pub returns-clause-goes : goal.returns-clause-goes
 returns-clause-goes g c =
     let did : Works g.L.Link.calls c.args.self.now c.args.work.now c.settle_downs.new.self c.mend_choices.new.work =
     works_both g.L.Link.calls _ _ _ _ _ _ c.in_ok-refused.ensures.goes
-    (works_then g.L.Link.calls _ _ _ _ _ c.in_ok-choose_spokes.ensures.keeps
+    (works_then g.L.Link.calls _ _ _ _ _ c.choose_spokes.ensures.keeps
     (works_both g.L.Link.calls _ _ _ _ _ _ c.in_ok-untold.ensures.goes (works_and g.L.Link.calls _ _ _ _ _ c.in_ok-failed.ensures.goes c.in_ok-settle_downs.ensures.keeps))) in
     record { keeps = did.keeps; on = record { link = did.on.link; effects = did.on.effects; idle = did.on.idle; calls = did.on.calls } }
 
-pub returns-in_err-choose_spokes-clause-goes : goal.returns-in_err-choose_spokes-clause-goes
-returns-in_err-choose_spokes-clause-goes g c = works_and g.L.Link.calls _ _ _ _ _ c.in_ok-refused.ensures.goes c.choose_spokes.ensures.keeps
-
 pub returns-in_err-untold-clause-goes : goal.returns-in_err-untold-clause-goes
 returns-in_err-untold-clause-goes g c = works_both g.L.Link.calls _ _ _ _ _ _ c.in_ok-refused.ensures.goes
-    (works_then g.L.Link.calls _ _ _ _ _ c.in_ok-choose_spokes.ensures.keeps c.mend_statuses.ensures.goes)
+    (works_then g.L.Link.calls _ _ _ _ _ c.choose_spokes.ensures.keeps c.mend_statuses.ensures.goes)
 
 pub returns-in_err-failed-clause-goes : goal.returns-in_err-failed-clause-goes
 returns-in_err-failed-clause-goes g c = works_both g.L.Link.calls _ _ _ _ _ _ c.in_ok-refused.ensures.goes
-    (works_then g.L.Link.calls _ _ _ _ _ c.in_ok-choose_spokes.ensures.keeps (works_both g.L.Link.calls _ _ _ _ _ _ c.in_ok-untold.ensures.goes c.mend_choices.ensures.goes))
+    (works_then g.L.Link.calls _ _ _ _ _ c.choose_spokes.ensures.keeps (works_both g.L.Link.calls _ _ _ _ _ _ c.in_ok-untold.ensures.goes c.mend_choices.ensures.goes))
 
 pub returns-in_err-settle_downs-clause-goes : goal.returns-in_err-settle_downs-clause-goes
 returns-in_err-settle_downs-clause-goes g c =
     let did : Works g.L.Link.calls c.args.self.now c.args.work.now c.settle_downs.new.self c.mend_choices.new.work =
     works_both g.L.Link.calls _ _ _ _ _ _ c.in_ok-refused.ensures.goes
-    (works_then g.L.Link.calls _ _ _ _ _ c.in_ok-choose_spokes.ensures.keeps
+    (works_then g.L.Link.calls _ _ _ _ _ c.choose_spokes.ensures.keeps
     (works_both g.L.Link.calls _ _ _ _ _ _ c.in_ok-untold.ensures.goes (works_and g.L.Link.calls _ _ _ _ _ c.in_ok-failed.ensures.goes c.settle_downs.ensures.keeps))) in
     record { keeps = did.keeps; on = record { link = did.on.link; effects = did.on.effects; idle = did.on.idle; calls = did.on.calls } }
