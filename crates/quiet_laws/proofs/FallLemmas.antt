@@ -41,6 +41,8 @@ use Rattle.flight_laws.proofs.MendingLemmas.{mends_keep}
 use Rattle.flight_laws.proofs.RuledHearLemmas.{IsHearing, hearing_ruled}
 use Rattle.flight_laws.proofs.SteadyLemmas.{steady_rows}
 use Rattle.flight_laws.proofs.WorksLemmas.{works_steady}
+use Rattle.spelling_laws.proofs.PutLemmas.{changed_effects}
+use Rattle.spelling_laws.proofs.WorkLemmas.{works_standing}
 use Rattle.rest_laws.specs.Delivered.{weigh_one, weight}
 use Rattle.rest_laws.specs.Levels.{level_of}
 use Rattle.rest_laws.specs.Rises.{HasMended, PutsAbove, left_above, put_most, said_count}
@@ -49,12 +51,12 @@ use Rattle.rest_laws.proofs.ClearLemmas.{put_mended}
 use Rattle.rest_laws.proofs.CountLemmas.{count_joined, mends_few_said}
 use Rattle.rest_laws.proofs.DeliverLemmas.{HasLevel, class_of, goes_by_plan, holds_by_plan, waits_put}
 use Rattle.rest_laws.proofs.DueLemmas.{PutsMore, PutsWell}
-use Rattle.rest_laws.proofs.PutLemmas.{HasPut, changed_effects}
+use Rattle.rest_laws.proofs.PutLemmas.{HasPut}
 use Rattle.rest_laws.proofs.RiseLemmas.{hearing_fewer, hearing_rises}
 use Rattle.rest_laws.proofs.StillLemmas.{mended_puts_none}
 use Rattle.quiet_laws.specs.Measure.{end_rank, phase_rank}
 use Rattle.quiet_laws.proofs.CostLemmas.{costly, costs, costs_few, costs_joined, costs_levels, worth}
-use Rattle.quiet_laws.proofs.ToldLemmas.{AreTold, MovesFew, MovesOn, Put, TellsMore, Telling, Told, moves_not, moves_then, none_happens, received_few, sender_is, telling_steady, tells_not, told_joined, told_messages, works_standing}
+use Rattle.quiet_laws.proofs.ToldLemmas.{AreTold, MovesFew, MovesOn, Put, TellsMore, Telling, Told, moves_not, moves_then, none_happens, received_few, sender_is, telling_steady, tells_not, told_joined, told_messages}
 
 -- ---- numbers
 
@@ -81,7 +83,7 @@ none_costs plan edges me few [] (p ∷ ps) none are = absurd are
 none_costs plan edges me few (effect.Said peer octets ∷ es) ps none are = clash none.0.allowed
 none_costs plan edges me few (e ∷ es) ps none are = none_costs plan edges me few es ps none.1 are
 
-has_mended : (plan : Plan) (me : EdgeId) (edge : EdgeState) → IsMendedAt plan me.0 edge → HasMended plan edge
+pub has_mended : (plan : Plan) (me : EdgeId) (edge : EdgeState) → IsMendedAt plan me.0 edge → HasMended plan edge
 has_mended plan me edge mended = record {
   ends = subst (λ (k : EdgeId). AllByRecursion (λ place. is_mended plan edge place ≡ true) (end_places plan k)) (sym mended.me) mended.ends;
   statuses = subst (λ (k : EdgeId). AllByRecursion (λ place. is_told plan edge place ≡ true) (end_places plan k)) (sym mended.me) mended.statuses;
@@ -166,7 +168,7 @@ module _ (plan : Plan) (checked : IsChecked plan) (types : HasTypes plan) (later
         let now : Peering = with_session (record (kept.session) { wait = 0 }) kept in
         let moved : Work = changes (with_peering peer (Some now)) work in
         let is : next ≡ moved = sender_is plan later me peer apart checked types messages kept work at falls.hears in
-        let there : moved.edge.peering peer.0 ≡ Some now = Rattle.quiet_laws.proofs.ToldLemmas.moved_stands peer now work in
+        let there : moved.edge.peering peer.0 ≡ Some now = Rattle.spelling_laws.proofs.SessionLemmas.moved_stands peer now work in
         let put : HasPut work.edge moved.edge = waits_put peer kept now work at refl in
         let f : Facts messages work = facts_at at falls.facts in
         record {
@@ -556,7 +558,7 @@ module _ (plan : Plan) (checked : IsChecked plan) (types : HasTypes plan) (later
           is = heard.is ∙ ap (λ (o : Option Peering). holds peer heard.rest o last) at
 
           on : MovesOn (Some now) (final.edge.peering peer.0)
-          on = subst (λ (o : Option Peering). MovesOn o (final.edge.peering peer.0)) (ap (λ (w : Work). w.edge.peering peer.0) is ∙ Rattle.quiet_laws.proofs.ToldLemmas.moved_stands peer now last) (ends.1.1 peer.0)
+          on = subst (λ (o : Option Peering). MovesOn o (final.edge.peering peer.0)) (ap (λ (w : Work). w.edge.peering peer.0) is ∙ Rattle.spelling_laws.proofs.SessionLemmas.moved_stands peer now last) (ends.1.1 peer.0)
 
           mended : IsMendedAt plan me.0 result.edge
           mended = subst (λ (w : Work). IsMendedAt plan me.0 w.edge) (sym is)

@@ -85,15 +85,24 @@ weight_joined plan e a b few (x ∷ xs) ys =
 
 -- ---- what was told to one neighbour
 
-abbrev to_of : ℕ → List Put → List Message
+abbrev pub to_of : ℕ → List Put → List Message
 to_of place [] = []
 to_of place (p ∷ ps) = cond (nat_eq place p.to) (p.message ∷ to_of place ps) (to_of place ps)
+
+-- a PDU of a message has at most 260 octets
+pub short_pdu : (own : Peers) (m : Message) → AreFit own → IsSaidAcross own m → length (written m (platform_of own.me)) ≤ 260
+short_pdu own m fit said =
+    few_octets (length (written m (platform_of own.me))) (length ((own.me.0 ++ two 0) ++ message_octets m)) (length (own.me.0 ++ two 0)) (length own.me.0) (length (message_octets m)) refl
+    (length-append (own.me.0 ++ two 0) (message_octets m)) (length-append own.me.0 (two 0)) fit.me.four (ready own m fit said).short
+  where
+    few_octets : (all back ids four m : ℕ) → all ≡ suc (suc (suc (suc back))) → back ≡ ids + m → ids ≡ four + 2 → four ≡ 4 → 6 + m ≤ 256 → all ≤ 260
+    few_octets all back ids four m is one two three short = omega (arith, is, one, two, three, short)
 
 module _ (plan : Plan) (me : ℕ) (place : ℕ) where
   abbrev own : Peers
   own = ends_at plan me place
 
-  said_are : (es : List Effect) (ps : List Put) → AreTold plan me es ps → said_to place es ≡ octets_of_all own.me (to_of place ps)
+  pub said_are : (es : List Effect) (ps : List Put) → AreTold plan me es ps → said_to place es ≡ octets_of_all own.me (to_of place ps)
   said_are [] [] are = refl
   said_are [] (p ∷ ps) are = absurd are
   said_are (effect.Said peer [] ∷ es) ps are = by (nat_eq place peer.0) (said_are es ps are) where
@@ -118,7 +127,7 @@ module _ (plan : Plan) (me : ℕ) (place : ℕ) where
             ∙ (rest ∙ sym (ap (λ (c : Bool). octets_of_all own.me (cond c (p.message ∷ to_of place ps) (to_of place ps))) is))
   said_are (e ∷ es) ps are = said_are es ps are
 
-  are_said : (es : List Effect) (ps : List Put) → AreTold plan me es ps → AreSaid own (to_of place ps)
+  pub are_said : (es : List Effect) (ps : List Put) → AreTold plan me es ps → AreSaid own (to_of place ps)
   are_said [] [] are = tt
   are_said [] (p ∷ ps) are = absurd are
   are_said (effect.Said peer [] ∷ es) ps are = are_said es ps are
@@ -137,13 +146,6 @@ module _ (plan : Plan) (me : ℕ) (place : ℕ) where
     costs_to (p ∷ ps) = at_place p.to (weighs plan edges me few p + 260) place + costs_to ps
 
     -- a PDU of a message has at most 260 octets
-    short_pdu : (m : Message) → AreFit own → IsSaidAcross own m → length (written m (platform_of own.me)) ≤ 260
-    short_pdu m fit said =
-        few_octets (length (written m (platform_of own.me))) (length ((own.me.0 ++ two 0) ++ message_octets m)) (length (own.me.0 ++ two 0)) (length own.me.0) (length (message_octets m)) refl
-        (length-append (own.me.0 ++ two 0) (message_octets m)) (length-append own.me.0 (two 0)) fit.me.four (ready own m fit said).short
-      where
-        few_octets : (all back ids four m : ℕ) → all ≡ suc (suc (suc (suc back))) → back ≡ ids + m → ids ≡ four + 2 → four ≡ 4 → 6 + m ≤ 256 → all ≤ 260
-        few_octets all back ids four m is one two three short = omega (arith, is, one, two, three, short)
 
     -- with one more, where it is to this one
     abbrev Worth : Put → List Put → Bool → Type 0
@@ -170,7 +172,7 @@ module _ (plan : Plan) (me : ℕ) (place : ℕ) where
           ≤ (weighs plan edges me few p + 260) + costs_to ps) (sym same)
           (more (weighs plan edges me few p) (weight plan edges me place few (to_of place ps)) (length (written p.message (platform_of own.me))) (length (octets_of_all own.me (to_of place ps))) (costs_to ps)
           (length (written p.message (platform_of own.me) ++ octets_of_all own.me (to_of place ps))) rest
-          (short_pdu p.message (subst (λ (k : ℕ). AreFit (ends_at plan me k)) (sym same) are.0.fit) (subst (λ (k : ℕ). IsSaidAcross (ends_at plan me k) p.message) (sym same) are.0.said))
+          (short_pdu own p.message (subst (λ (k : ℕ). AreFit (ends_at plan me k)) (sym same) are.0.fit) (subst (λ (k : ℕ). IsSaidAcross (ends_at plan me k) p.message) (sym same) are.0.said))
           (length-append (written p.message (platform_of own.me)) (octets_of_all own.me (to_of place ps)))))
       by false is rest = subst (Worth p ps) (sym is) (none (weight plan edges me place few (to_of place ps)) (length (octets_of_all own.me (to_of place ps))) (costs_to ps) rest)
     told_worth (e ∷ es) ps are = told_worth es ps are

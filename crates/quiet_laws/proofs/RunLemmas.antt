@@ -53,6 +53,7 @@ use Rattle.flight_laws.proofs.RuledRunLemmas.{run_ruled}
 use Rattle.flight_laws.proofs.RunLemmas.{run_ordered}
 use Rattle.flight_laws.proofs.SteadyLemmas.{steady_rows}
 use Rattle.flight_laws.proofs.WorksLemmas.{works_begin, works_kept, works_steady}
+use Rattle.spelling_laws.proofs.WorkLemmas.{works_standing}
 use Rattle.flood_laws.specs.Deliveries.{is_delivery}
 use Rattle.rest_laws.specs.Delivered.{weight}
 use Rattle.rest_laws.specs.Rest.{RestsWithin, RunsComeToRest, all_deliver, delivers}
@@ -64,7 +65,7 @@ use Rattle.quiet_laws.proofs.CostLemmas.{costs, costs_few}
 use Rattle.quiet_laws.proofs.FallLemmas.{Falls, HasFallen, fallen_all, falls_messages, one_time, some_rank, times_more}
 use Rattle.quiet_laws.proofs.NetworkLemmas.{HasWorked, measure_falls, worth_left}
 use Rattle.quiet_laws.proofs.SumLemmas.{place_less, same_sums}
-use Rattle.quiet_laws.proofs.ToldLemmas.{AreTold, IsPlainOutcome, MovesOn, Telling, TellsFew, TellsMore, event_few, event_on, moves_not, moves_then, telling_steady, tells_not, tells_then, works_standing}
+use Rattle.quiet_laws.proofs.ToldLemmas.{AreTold, IsPlainOutcome, MovesOn, Telling, TellsFew, TellsMore, event_few, event_on, moves_not, moves_then, telling_steady, tells_not, tells_then}
 
 -- ---- edges of the plan
 
@@ -79,7 +80,7 @@ no_address : (n : ℕ) → n ≡ 0 → n ≡ 4 → ⊥
 no_address n none four = omega (arith, none, four)
 
 -- an end that fits is one of the plan's
-fit_below : (plan : Plan) (a b : ℕ) → AreFit (ends_at plan a b) → (a < length plan.edges) × (b < length plan.edges)
+pub fit_below : (plan : Plan) (a b : ℕ) → AreFit (ends_at plan a b) → (a < length plan.edges) × (b < length plan.edges)
 fit_below plan a b fit = by (slice_get plan.edges a) refl (slice_get plan.edges b) refl fit where
   by : (one : Option EdgePlan) → slice_get plan.edges a ≡ one → (other : Option EdgePlan) → slice_get plan.edges b ≡ other → AreFit (Rattle.flight_laws.specs.Ends.ends_between one other)
       → (a < length plan.edges) × (b < length plan.edges)

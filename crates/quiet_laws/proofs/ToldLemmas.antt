@@ -28,15 +28,15 @@ use Rattle.edge_model.specs.declared.effect.Effect.{Effect}
 use Rattle.edge_model.specs.declared.effect.Effect.TheVariants as effect
 use Rattle.edge_model.specs.Hear.{is_up_phase}
 use Rattle.edge_model.specs.Mend.{is_operational, is_up_with}
-use Rattle.edge_model.specs.Put.{Spoken, having_spoken, message_octets_of, octets_of, put_octets, put_replies, put_reply_to, puts_on, with_spoken}
-use Rattle.edge_model.specs.Session.{clears_ends, comes_of, ends, happens, happens_to, happens_with_ends, is_same_phase, says, tells_change, with_session}
-use Rattle.edge_model.specs.State.{EdgeState, Peering, has_end, is_there, with_ends_beside, with_kept, with_peering}
-use Rattle.edge_model.specs.Work.{Work, changes, gives, puts}
+use Rattle.edge_model.specs.Put.{Spoken, having_spoken, message_octets_of, octets_of, put_replies}
+use Rattle.edge_model.specs.Session.{comes_of, ends, happens, happens_to, happens_with_ends, is_same_phase, says, tells_change, with_session}
+use Rattle.edge_model.specs.State.{EdgeState, Peering, is_there, with_peering}
+use Rattle.edge_model.specs.Work.{Work, changes, gives}
 use Rattle.edge_model.proofs.HeldLemmas.{clears_keep, ended_gone}
 use Rattle.edge_model.proofs.MendLemmas.{says_taken}
 use Rattle.network_model.specs.Absorb.{taken_all}
 use Rattle.network_model.specs.State.{NetworkState}
-use Rattle.flight_laws.specs.Ends.{HasTypes, WorksOn, ends_at}
+use Rattle.flight_laws.specs.Ends.{HasTypes, ends_at}
 use Rattle.flight_laws.specs.Meeting.{IsFine, said_to}
 use Rattle.flight_laws.specs.Messages.{IsSaidAcross}
 use Rattle.flight_laws.specs.Pair.{AreFit, AreTalking, IsStanding, StandsIf, having_put_all, phase_of}
@@ -54,9 +54,11 @@ use Rattle.flight_laws.proofs.SpokenLemmas.{says_spoken}
 use Rattle.flight_laws.proofs.SteadyLemmas.{IsSilent, IsSteady, steady_rows}
 use Rattle.flight_laws.proofs.TalkLemmas.{opens_initialized, opens_sent, rises}
 use Rattle.flight_laws.proofs.WorksLemmas.{changed_edge, gives_spares}
+use Rattle.spelling_laws.proofs.PutLemmas.{changed_effects, put_effects, Speaks, first_put, given_effects, put_first, put_stands}
+use Rattle.spelling_laws.proofs.SessionLemmas.{cleared_effects, moved_stands}
+use Rattle.spelling_laws.proofs.WorkLemmas.{hears_standing, talk_at}
 use Rattle.rest_laws.specs.Rises.{said_count}
 use Rattle.quiet_laws.specs.Measure.{end_rank, phase_rank}
-use Rattle.rest_laws.proofs.PutLemmas.{changed_effects, put_effects}
 
 -- ---- what is told
 
@@ -124,10 +126,6 @@ tells_one plan me es peer m fit said = record {
 -- an effect that says nothing
 tells_silent : (plan : Plan) (me : ℕ) (es : List Effect) (e : Effect) → AreTold plan me (e ∷ []) [] → TellsMore plan me es (es ++ e ∷ [])
 tells_silent plan me es e none = record { more = e ∷ []; joined = refl; told = []; are = none }
-
-given_effects : (e : Effect) (work : Work) → (gives e work).effects ≡ work.effects ++ e ∷ []
-unfolding gives
-given_effects e work = refl
 
 none_said : {o : ℕ} {os : List ℕ} → o ∷ os ≡ [] → ⊥
 none_said e = cc
@@ -219,27 +217,13 @@ moves_no_further kept (Goes next replies) moves = less (phase_rank next.phase) (
   less a b le = omega (arith, le)
 moves_no_further kept (Ends why replies) moves = tt
 
-reply_said : (own : Peers) (r : Reply) (id : ℕ) → IsPlain r → id < 2 ^ 32 → IsSaidAcross own (message_of r id own)
+pub reply_said : (own : Peers) (r : Reply) (id : ℕ) → IsPlain r → id < 2 ^ 32 → IsSaidAcross own (message_of r id own)
 reply_said own reply.Init id plain small = (small, refl)
 reply_said own reply.KeepAlive id plain small = small
 reply_said own (reply.Notice status) id plain small = absurd plain
 
-put_stands : (peer : EdgeId) (bytes : List ℕ) (kept : Peering) (work : Work) → work.edge.peering peer.0 ≡ Some kept → (put_octets peer bytes true work).work.edge.peering peer.0 ≡ Some (having_spoken kept)
-unfolding changes gives puts with_peering with_spoken
-put_stands peer bytes kept work at = rw (same_number peer.0, at) refl
-
-pub moved_stands : (peer : EdgeId) (now : Peering) (work : Work) → (changes (with_peering peer (Some now)) work).edge.peering peer.0 ≡ Some now
-unfolding changes with_peering
-moved_stands peer now work = rw (same_number peer.0) refl
-
 following_low : (n : ℕ) → n < 2 ^ 32 → following n < 2 ^ 32
 following_low n low = following_small n low
-
--- what an end that stands says by
-pub record Speaks (own : Peers) (kept : Peering) : Type 0 where
-  pub peers : kept.session.peers ≡ own
-  pub fit : AreFit own
-  pub low : kept.next_id < 2 ^ 32
 
 -- more is told, by so few messages
 pub record TellsFew (plan : Plan) (me most : ℕ) (old new : List Effect) : Type 0 where
@@ -276,13 +260,7 @@ module _ (plan : Plan) (me : EdgeId) (peer : EdgeId) where
   one_more_than : (n : ℕ) → 1 + n ≡ suc n
   one_more_than n = omega arith
 
-  abbrev first_put : Reply → Peering → Work → Spoken
-  first_put r kept work = put_octets peer (octets_of kept r) true work
-
-  put_first : (r : Reply) (rs : List Reply) (kept : Peering) (work : Work) → work.edge.peering peer.0 ≡ Some kept → put_replies taken_all peer (r ∷ rs) work ≡ put_replies taken_all peer rs (first_put r kept work).work
-  put_first r rs kept work at = ap (λ (o : Option Peering). puts_on (put_replies taken_all peer rs) (put_reply_to taken_all peer r o work).failed (put_reply_to taken_all peer r o work).work) at
-
-  one_put : (r : Reply) (kept : Peering) (work : Work) → Speaks own kept → IsPlain r → TellsFew plan me.0 1 work.effects (first_put r kept work).work.effects
+  one_put : (r : Reply) (kept : Peering) (work : Work) → Speaks own kept → IsPlain r → TellsFew plan me.0 1 work.effects (first_put peer r kept work).work.effects
   one_put r kept work speaks plain = subst (TellsFew plan me.0 1 work.effects) (sym (put_effects peer (octets_of kept r) work))
       (subst (λ (bytes : List ℕ). TellsFew plan me.0 1 work.effects (work.effects ++ effect.Said peer bytes ∷ [])) (sym spelled) (record {
         tells = tells_one plan me.0 work.effects peer (message_of r kept.next_id own) speaks.fit (reply_said own r kept.next_id plain speaks.low);
@@ -299,12 +277,12 @@ module _ (plan : Plan) (me : EdgeId) (peer : EdgeId) where
   replies_put : (rs : List Reply) (kept : Peering) (work : Work) → work.edge.peering peer.0 ≡ Some kept → Speaks own kept → AllByRecursion IsPlain rs → RepliesPut rs work (put_replies taken_all peer rs work)
   replies_put [] kept work at speaks plain = record { taken = refl; tells = few_not work.effects 0 }
   replies_put (r ∷ rs) kept work at speaks plain =
-      let rest : RepliesPut rs (first_put r kept work).work (put_replies taken_all peer rs (first_put r kept work).work) =
-      replies_put rs (having_spoken kept) (first_put r kept work).work (put_stands peer (octets_of kept r) kept work at) (record { peers = speaks.peers; fit = speaks.fit; low = following_low kept.next_id speaks.low }) plain.1 in
-      subst (RepliesPut (r ∷ rs) work) (sym (put_first r rs kept work at)) (record {
+      let rest : RepliesPut rs (first_put peer r kept work).work (put_replies taken_all peer rs (first_put peer r kept work).work) =
+      replies_put rs (having_spoken kept) (first_put peer r kept work).work (put_stands peer (octets_of kept r) kept work at) (record { peers = speaks.peers; fit = speaks.fit; low = following_low kept.next_id speaks.low }) plain.1 in
+      subst (RepliesPut (r ∷ rs) work) (sym (put_first peer r rs kept work at)) (record {
         taken = rest.taken;
-        tells = subst (λ (n : ℕ). TellsFew plan me.0 n work.effects (put_replies taken_all peer rs (first_put r kept work).work).work.effects) (one_more_than (length rs))
-            (few_then work.effects (first_put r kept work).work.effects (put_replies taken_all peer rs (first_put r kept work).work).work.effects 1 (length rs) (one_put r kept work speaks plain.0) rest.tells);
+        tells = subst (λ (n : ℕ). TellsFew plan me.0 n work.effects (put_replies taken_all peer rs (first_put peer r kept work).work).work.effects) (one_more_than (length rs))
+            (few_then work.effects (first_put peer r kept work).work.effects (put_replies taken_all peer rs (first_put peer r kept work).work).work.effects 1 (length rs) (one_put r kept work speaks plain.0) rest.tells);
       })
 
   -- an event happens
@@ -355,17 +333,10 @@ module _ (plan : Plan) (me : EdgeId) (peer : EdgeId) where
   comes_few kept (Ends why replies) work at speaks plain =
       subst (λ (rs : List Reply). TellsFew plan me.0 2 work.effects (ends peer why (put_replies taken_all peer rs work).work).effects) (sym plain) (ends_few why work)
 
-  cleared_effects : (work : Work) → (clears_ends peer work).effects ≡ work.effects
-  unfolding changes with_ends_beside with_kept
-  cleared_effects work = by (has_end work.edge peer) where
-    by : (b : Bool) → (cond b work (changes (Rattle.edge_model.specs.Session.losing_ends peer) work)).effects ≡ work.effects
-    by true = refl
-    by false = refl
-
   pub event_few : (event : SessionEvent) (kept : Peering) (work : Work) → work.edge.peering peer.0 ≡ Some kept → Speaks own kept → IsPlainOutcome own (outcome_of kept.session event)
       → TellsFew plan me.0 2 work.effects (happens_with_ends taken_all peer event work).effects
   event_few event kept work at speaks plain =
-      subst (TellsFew plan me.0 2 work.effects) (sym (cleared_effects (happens taken_all peer event work) ∙ ap (λ (o : Option Peering). (happens_to taken_all peer event o work).effects) at))
+      subst (TellsFew plan me.0 2 work.effects) (sym (cleared_effects peer (happens taken_all peer event work) ∙ ap (λ (o : Option Peering). (happens_to taken_all peer event o work).effects) at))
       (comes_few kept (outcome_of kept.session event) work at speaks plain)
 
   -- no event brings an end that was not, and what is held stays
@@ -464,9 +435,6 @@ module _ (own other : Peers) (kept : Peering) (far : Option Peering) (out back :
 
 -- ---- an edge that hears the peer
 
-speaks_by : (own other : Peers) (kept : Peering) → IsStanding own other kept → Speaks own kept
-speaks_by own other kept is = record { peers = is.peers; fit = is.between.one; low = is.numbered }
-
 -- ---- steady work
 
 -- what is steady, and says by the plan
@@ -522,32 +490,6 @@ module _ (plan : Plan) (me : EdgeId) (first : List Effect) (start : ℕ → Opti
     );
   }
 
--- an edge at work stands by the plan
-no_end : {kept : Peering} → None ≡ Some kept → ⊥
-no_end e = cc
-
-pub works_standing : (plan : Plan) (network : NetworkState) (me : EdgeId) (work : Work) → WorksOn plan network me work → (k : ℕ) (kept : Peering) → work.edge.peering k ≡ Some kept → Speaks (ends_at plan me.0 k) kept
-works_standing plan network me work works k kept at = elim (cases_Bool (nat_eq k me.0)) [
-  | inl mine ↦ absurd (no_end (sym (subst (λ (n : ℕ). work.edge.peering n ≡ None) (sym (eqb-true k me.0 mine)) works.alone) ∙ at))
-  | inr gone ↦ speaks_by (ends_at plan me.0 k) (ends_at plan k me.0) kept (subst (StandsIf (ends_at plan me.0 k) (ends_at plan k me.0)) at (works.left k gone).leaves.talk.here)
-]
-
-pub hears_standing : (plan : Plan) (network : NetworkState) (me peer : EdgeId) (messages : List Message) (work : Work) → HearsOn plan network me peer messages work → (k : ℕ) (kept : Peering)
-    → work.edge.peering k ≡ Some kept → Speaks (ends_at plan me.0 k) kept
-hears_standing plan network me peer messages work hears k kept at = elim (cases_Bool (nat_eq k peer.0)) [
-  | inl same ↦ subst (λ (n : ℕ). Speaks (ends_at plan me.0 n) kept) (sym (eqb-true k peer.0 same)) (at_peer (subst (λ (n : ℕ). work.edge.peering n ≡ Some kept) (eqb-true k peer.0 same) at))
-  | inr away ↦ elsewhere away
-]
-  where
-    at_peer : work.edge.peering peer.0 ≡ Some kept → Speaks (ends_at plan me.0 peer.0) kept
-    at_peer there = speaks_by (ends_at plan me.0 peer.0) (ends_at plan peer.0 me.0) kept (subst (StandsIf (ends_at plan me.0 peer.0) (ends_at plan peer.0 me.0)) there hears.meets.talk.here)
-
-    elsewhere : nat_eq k peer.0 ≡ false → Speaks (ends_at plan me.0 k) kept
-    elsewhere away = elim (cases_Bool (nat_eq k me.0)) [
-      | inl mine ↦ absurd (no_end (sym (subst (λ (n : ℕ). work.edge.peering n ≡ None) (sym (eqb-true k me.0 mine)) hears.alone) ∙ at))
-      | inr gone ↦ speaks_by (ends_at plan me.0 k) (ends_at plan k me.0) kept (subst (StandsIf (ends_at plan me.0 k) (ends_at plan k me.0)) at (hears.left k gone away).leaves.talk.here)
-    ]
-
 -- ---- an edge that hears the peer
 
 module _ (plan : Plan) (network : NetworkState) (me peer : EdgeId) (apart : nat_eq me.0 peer.0 ≡ false) (checked : IsChecked plan) (types : HasTypes plan) where
@@ -564,10 +506,6 @@ module _ (plan : Plan) (network : NetworkState) (me peer : EdgeId) (apart : nat_
     | inl same ↦ subst (λ (n : ℕ). MovesOn (work.edge.peering n) ((happens_with_ends taken_all peer event work).edge.peering n)) (sym (eqb-true k peer.0 same)) less
     | inr away ↦ subst (MovesOn (work.edge.peering k)) (sym (event_spare k peer event work away).spares.kept) (moves_not (work.edge.peering k))
   ]
-
-  talk_at : (m : Message) (messages : List Message) (kept : Peering) (work : Work) → work.edge.peering peer.0 ≡ Some kept → (hears : Hears (m ∷ messages) work)
-      → AreTalking (ends_at plan me.0 peer.0) other_end (Some kept) ((network.edges peer.0).peering me.0) hears.meets.messages (m ∷ messages)
-  talk_at m messages kept work at hears = rw at at hears.meets.talk
 
   pub standing_at : (messages : List Message) (kept : Peering) (work : Work) → work.edge.peering peer.0 ≡ Some kept → Hears messages work → IsStanding (ends_at plan me.0 peer.0) other_end kept
   standing_at messages kept work at hears = subst (StandsIf (ends_at plan me.0 peer.0) other_end) at hears.meets.talk.here
@@ -586,7 +524,7 @@ module _ (plan : Plan) (network : NetworkState) (me peer : EdgeId) (apart : nat_
   received_few m messages kept work at why hears =
       let own : Peers = ends_at plan me.0 peer.0 in
       let moves : MovesBy own kept (outcome_of kept.session (Received m)) =
-      received_moves own other_end kept ((network.edges peer.0).peering me.0) hears.meets.messages messages m (talk_at m messages kept work at hears) why in
+      received_moves own other_end kept ((network.edges peer.0).peering me.0) hears.meets.messages messages m (talk_at plan network me peer (m ∷ messages) kept work at hears) why in
       record {
         tells = event_few plan me peer (Received m) kept work at (hears_standing plan network me peer (m ∷ messages) work hears peer.0 kept at) moves.plain;
         less = event_rank plan me peer (Received m) kept work hears.meets.fine at (unclosed (m ∷ messages) kept work at hears) moves.moves;
@@ -621,7 +559,7 @@ module _ (plan : Plan) (network : NetworkState) (me peer : EdgeId) (apart : nat_
   pub none_happens : (event : SessionEvent) (work : Work) → work.edge.peering peer.0 ≡ None
       → ((happens_with_ends taken_all peer event work).effects ≡ work.effects) × ((happens_with_ends taken_all peer event work).edge.peering ≡ work.edge.peering)
   none_happens event work at = (
-    cleared_effects plan me peer (happens taken_all peer event work) ∙ ap (λ (o : Option Peering). (happens_to taken_all peer event o work).effects) at,
+    cleared_effects peer (happens taken_all peer event work) ∙ ap (λ (o : Option Peering). (happens_to taken_all peer event o work).effects) at,
     clears_keep peer (happens taken_all peer event work) ∙ ap (λ (o : Option Peering). (happens_to taken_all peer event o work).edge.peering) at,
   )
 

@@ -52,9 +52,9 @@ use Rattle.edge_model.specs.Frame.{copies}
 use Rattle.edge_model.specs.Hear.{acts_on}
 use Rattle.edge_model.specs.Signal.{end_of_fec, maps_to, releases_label, takes_content, with_end_changed, with_named, with_released}
 use Rattle.edge_model.proofs.SignalLemmas.{acts_on_signals}
+use Rattle.spelling_laws.proofs.PutLemmas.{changed_effects, put_effects}
 use Rattle.rest_laws.specs.Levels.{Saying, saying_of}
 use Rattle.rest_laws.specs.Rises.{answers_most, most_put, put_most, said_count, says_any}
-use Rattle.rest_laws.proofs.PutLemmas.{changed_effects, put_effects}
 
 -- ---- one message
 
@@ -369,13 +369,13 @@ module _ (plan : Plan) (peer : EdgeId) where
 
 -- ---- on a message that is said in a run
 
-one_piece : (n : ℕ) → n ≤ 30 → piece_count n ≤ 1
+pub one_piece : (n : ℕ) → n ≤ 30 → piece_count n ≤ 1
 one_piece n few = by (nat_eq n 0) where
   by : (b : Bool) → cond b 1 ((n + 29) / 30) ≤ 1
   by true = omega arith
   by false = omega (arith, few)
 
-pieces_length : (n : ℕ) (macs : List Mac) → length (pieces_from n macs) ≡ n
+pub pieces_length : (n : ℕ) (macs : List Mac) → length (pieces_from n macs) ≡ n
 pieces_length zero macs = refl
 pieces_length (suc n) macs = ap suc (pieces_length n (drop most_in_piece macs))
 

@@ -73,6 +73,7 @@ use Rattle.flight_laws.proofs.StayLemmas.{received_goes}
 use Rattle.flight_laws.proofs.SteadyLemmas.{IsSteady, steady_rows}
 use Rattle.flight_laws.proofs.ToldLemmas.{TellsFirm, TellsOwn}
 use Rattle.flight_laws.proofs.WorksLemmas.{changed_edge, gives_spares}
+use Rattle.spelling_laws.proofs.PutLemmas.{changed_effects}
 use Rattle.rest_laws.specs.Delivered.{IsOneOf, LightensOn, RisesOn, RunsLighten, RunsRise, SaysAboveOne, weigh_one, weight}
 use Rattle.rest_laws.specs.Levels.{Saying, Binds, Withdraws, Releases, States, Clears, level, level_at, level_by, level_of, pw_id_of, saying_of}
 use Rattle.rest_laws.specs.Rises.{AreSaidAt, HasMended, HoldsByPlan, IsByPlan, PutsAbove, left_above, most_put, put_most}
@@ -81,7 +82,7 @@ use Rattle.rest_laws.specs.Weight.{heavy, total}
 use Rattle.rest_laws.proofs.WeightLemmas.{heavy_some}
 use Rattle.rest_laws.proofs.ClearLemmas.{put_mended}
 use Rattle.rest_laws.proofs.DueLemmas.{PutsMore, PutsWell}
-use Rattle.rest_laws.proofs.PutLemmas.{HasPut, changed_effects}
+use Rattle.rest_laws.proofs.PutLemmas.{HasPut}
 use Rattle.rest_laws.proofs.StillLemmas.{mended_puts_none}
 use Rattle.rest_laws.proofs.RiseLemmas.{hearing_lightens, hearing_rises}
 

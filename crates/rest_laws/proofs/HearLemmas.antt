@@ -33,10 +33,11 @@ use Rattle.edge_model.proofs.MendedLemmas.{end_put}
 use Rattle.network_model.specs.Absorb.{taken_all}
 use Rattle.flight_laws.proofs.MendedRunLemmas.{IsMendedAt}
 use Rattle.flight_laws.proofs.PlaceLemmas.{IsEndOf, NamedEnd, end_of, find_holds, named_is}
+use Rattle.spelling_laws.proofs.PutLemmas.{changed_effects}
 use Rattle.rest_laws.specs.Levels.{Saying, Binds, Withdraws, Releases, States, Clears, address_stage, is_above, is_higher, label_stage, level, level_by, edges_spoken, status_stage, way_hangs}
 use Rattle.rest_laws.proofs.DueLemmas.{IsDue, PutsMore}
 use Rattle.flight_laws.proofs.WorksLemmas.{changed_edge}
-use Rattle.rest_laws.proofs.PutLemmas.{WishesAlike, changed_effects, end_else, mending_puts_due, remote_put, same_side, some_alike, stands_alike, stands_at}
+use Rattle.rest_laws.proofs.PutLemmas.{WishesAlike, end_else, mending_puts_due, remote_put, same_side, some_alike, stands_alike, stands_at}
 use Rattle.rest_laws.proofs.StepLemmas.{spoken_short}
 
 -- ---- an edge that has mended
@@ -134,7 +135,7 @@ released_told label (Withdrawing other) own content is = by (names label other) 
   by true e = absurd (cc (e))
   by false e = absurd (cc (e))
 
-released_alike : (label : Option ℕ) (place : EndPlace) (edge : EdgeState) → WishesAlike edge (releasing label place edge)
+pub released_alike : (label : Option ℕ) (place : EndPlace) (edge : EdgeState) → WishesAlike edge (releasing label place edge)
 unfolding with_kept with_end
 released_alike label place edge = record {
   me = refl;
@@ -146,11 +147,11 @@ released_alike label place edge = record {
       (sym (same_to_give edge.next_label (left_label (own_label (end_at edge place).local) (own_label (released label (end_at edge place)).local)) place.peer edge.kept)) ∙ left;
 }
 
-released_here : (label : Option ℕ) (place : EndPlace) (edge : EdgeState) → end_at (releasing label place edge) place ≡ released label (end_at edge place)
+pub released_here : (label : Option ℕ) (place : EndPlace) (edge : EdgeState) → end_at (releasing label place edge) place ≡ released label (end_at edge place)
 unfolding with_kept
 released_here label place edge = end_put place (released label (end_at edge place)) edge
 
-released_else : (label : Option ℕ) (place : EndPlace) (edge : EdgeState) (wire k : ℕ) → stands_at place wire k ≡ false → (releasing label place edge).ends wire k ≡ edge.ends wire k
+pub released_else : (label : Option ℕ) (place : EndPlace) (edge : EdgeState) (wire k : ℕ) → stands_at place wire k ≡ false → (releasing label place edge).ends wire k ≡ edge.ends wire k
 unfolding with_kept
 released_else label place edge wire k apart = end_else place (released label (end_at edge place)) edge wire k apart
 
@@ -244,7 +245,7 @@ release_small stage n h k = omega (arith, h, k)
 release_more : (stage n : ℕ) → stage + (3 * n + 1) < stage + (3 * n + 2)
 release_more stage n = omega arith
 
-releasing_me : (label : Option ℕ) (place : EndPlace) (edge : EdgeState) → (releasing label place edge).me ≡ edge.me
+pub releasing_me : (label : Option ℕ) (place : EndPlace) (edge : EdgeState) → (releasing label place edge).me ≡ edge.me
 unfolding with_kept with_end
 releasing_me label place edge = refl
 

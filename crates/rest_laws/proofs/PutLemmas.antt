@@ -40,6 +40,7 @@ use Rattle.network_model.specs.Absorb.{taken_all}
 use Rattle.flight_laws.proofs.KeepLemmas.{KeepsEnds}
 use Rattle.flight_laws.proofs.MendingLemmas.{KeptByRows, mends_keep}
 use Rattle.flight_laws.proofs.PlaceLemmas.{IsEndOf}
+use Rattle.spelling_laws.proofs.PutLemmas.{put_effects}
 use Rattle.rest_laws.specs.Levels.{Saying, Binds, Withdraws, States, Clears, pw_id_of, saying_of}
 use Rattle.rest_laws.proofs.DueLemmas.{IsDue, MendingPutsDue, PutsMore, PutsWell}
 
@@ -62,11 +63,6 @@ module _ (plan : Plan) (me : EdgeId) (may : EndPlace → Saying → Bool) where
 
   pub puts_one : (es : List Effect) (effect : Effect) → PutsWell plan me may effect → PutsMore plan me may es (es ++ effect ∷ [])
   puts_one es effect well = record { more = effect ∷ []; joined = refl; well = (well, tt) }
-
--- a change gives nothing out
-pub changed_effects : (change : EdgeState → EdgeState) (work : Work) → (changes change work).effects ≡ work.effects
-unfolding changes
-changed_effects change work = refl
 
 -- ---- what ends should tell
 
@@ -239,10 +235,6 @@ octets_put peer bytes work = record { me = refl; wires = refl; bits = refl; ends
     | inr away ↦ rw away refl
   ]
 
-pub put_effects : (peer : EdgeId) (bytes : List ℕ) (work : Work) → (put_octets peer bytes true work).work.effects ≡ work.effects ++ Said peer bytes ∷ []
-unfolding changes gives puts with_peering with_spoken
-put_effects peer bytes work = refl
-
 module _ (plan : Plan) (me : EdgeId) (may : EndPlace → Saying → Bool) where
   -- a message is put at an end
   pub record HasSaid (old new : Work) : Type 0 where
@@ -380,6 +372,70 @@ module _ (plan : Plan) (me : EdgeId) (may : EndPlace → Saying → Bool) (old n
           (sym (stands_alike plan old new turns.alike p content) ∙ gone)
     ]
 
+-- ---- an end maps, or withdraws
+
+module _ (plan : Plan) (me : EdgeId) (may : EndPlace → Saying → Bool) where
+  -- an end has turned, the edge has said so, and what is due then may be put
+  pub record HasTurned (place : EndPlace) (end : EndState) (old new : Work) : Type 0 where
+    pub turned : TurnsEnd place end old.edge new.edge
+    pub puts : PutsMore plan me may old.effects new.effects
+    pub due : IsDue plan me may new.edge
+    pub chosen : new.edge.chosen ≡ old.edge.chosen
+    pub priorities : new.edge.priority ≡ old.edge.priority
+
+  pub advertises_turns : (place : EndPlace) (label : ℕ) (content : Told) (work : Work) → IsEndOf plan me place → (end_at work.edge place).local ≡ Idle false → wish plan work.edge place
+      ≡ Some content → label_to_give work.edge ≡ Some label → IsDue plan me may work.edge
+      → HasTurned place (advertised label content (end_at work.edge place)) work (says taken_all place.peer (mapping place.pw_id label content) (changes (advertising place label content) work)).work
+  unfolding changes with_end with_next_label with_kept
+  advertises_turns place label content work here idle wished given due =
+      let end : EndState = advertised label content (end_at work.edge place) in
+      let begun : Work = changes (advertising place label content) work in
+      let next : Work = (says taken_all place.peer (mapping place.pw_id label content) begun).work in
+      let said : HasSaid plan me may begun next =
+      says_puts plan me may place (mapping place.pw_id label content) Binds begun here (λ id. refl) (λ id. refl)
+      (due.binds place here idle (ap (λ (o : Option Told). is_some o) wished) (ap (λ (o : Option ℕ). is_some o) given)) in
+      let turned : TurnsEnd place end work.edge next.edge =
+      turned_by place end work.edge begun.edge next.edge refl refl refl refl refl refl (λ left. ap (λ (o : Option ℕ). is_some o) given) said.put in
+      let local : (end_at next.edge place).local ≡ Advertised label content =
+      ap (λ (e : EndState). e.local) turned.here ∙ ap (λ (l : LocalPart). (advertised label content (record { local = l; remote = (end_at work.edge place).remote })).local) idle in
+      record {
+        turned = turned;
+        puts = said.puts;
+        due = due_turned plan me may work.edge next.edge place end here turned (record {
+          binds = λ at some. not_idle (sym local ∙ at);
+          withdraws = λ other told at gone. is_true
+              (stands_alike plan work.edge next.edge turned.alike place told
+              ∙ (ap (offer_stands place told) wished ∙ (ap (λ (c : Told). offer_stands place told (Some c)) (same_content (sym local ∙ at)) ∙ stands_itself place told)))
+              gone;
+        }) due;
+        chosen = said.put.chosen;
+        priorities = said.put.priorities;
+      }
+
+  pub withdraws_turns : (place : EndPlace) (label : ℕ) (content : Told) (work : Work) → IsEndOf plan me place → (end_at work.edge place).local ≡ Advertised label content
+      → offer_stands place content (wish plan work.edge place) ≡ false → IsDue plan me may work.edge
+      → HasTurned place (withdrawn (end_at work.edge place)) work (withdraws taken_all place label content work).work
+  unfolding changes with_end with_kept
+  withdraws_turns place label content work here told gone due =
+      let end : EndState = withdrawn (end_at work.edge place) in
+      let begun : Work = changes (withdrawing place) work in
+      let next : Work = (says taken_all place.peer (withdrawal place.pw_id label content) begun).work in
+      let said : HasSaid plan me may begun next =
+      says_puts plan me may place (withdrawal place.pw_id label content) Withdraws begun here (λ id. refl) (λ id. refl) (due.withdraws place here label content told gone) in
+      let turned : TurnsEnd place end work.edge next.edge = turned_by place end work.edge begun.edge next.edge refl refl refl refl refl refl (λ left. left) said.put in
+      let local : (end_at next.edge place).local ≡ Withdrawing label =
+      ap (λ (e : EndState). e.local) turned.here ∙ ap (λ (l : LocalPart). (withdrawn (record { local = l; remote = (end_at work.edge place).remote })).local) told in
+      record {
+        turned = turned;
+        puts = said.puts;
+        due = due_turned plan me may work.edge next.edge place end here turned (record {
+          binds = λ at some. not_idle_too (sym local ∙ at);
+          withdraws = λ other content at still. not_told (sym local ∙ at);
+        }) due;
+        chosen = said.put.chosen;
+        priorities = said.put.priorities;
+      }
+
 -- ---- the rows of mending
 
 -- while an edge mends: it is at its place, what is due of labels may be put, and what was put is so
@@ -404,44 +460,17 @@ module _ (plan : Plan) (me : EdgeId) (may : EndPlace → Saying → Bool) (first
 
   advertises_puts : (place : EndPlace) (label : ℕ) (content : Told) (work : Work) → IsEndOf plan me place → (end_at work.edge place).local ≡ Idle false → wish plan work.edge place
       ≡ Some content → label_to_give work.edge ≡ Some label → At work → At (says taken_all place.peer (mapping place.pw_id label content) (changes (advertising place label content) work)).work
-  unfolding changes with_end with_next_label with_kept
   advertises_puts place label content work here idle wished given now =
-      let end : EndState = advertised label content (end_at work.edge place) in
-      let begun : Work = changes (advertising place label content) work in
-      let next : Work = (says taken_all place.peer (mapping place.pw_id label content) begun).work in
-      let said : HasSaid plan me may begun next =
-      says_puts plan me may place (mapping place.pw_id label content) Binds begun here (λ id. refl) (λ id. refl)
-      (now.due.binds place here idle (ap (λ (o : Option Told). is_some o) wished) (ap (λ (o : Option ℕ). is_some o) given)) in
-      let turned : TurnsEnd place end work.edge next.edge =
-      turned_by place end work.edge begun.edge next.edge refl refl refl refl refl refl (λ left. ap (λ (o : Option ℕ). is_some o) given) said.put in
-      let local : (end_at next.edge place).local ≡ Advertised label content =
-      ap (λ (e : EndState). e.local) turned.here ∙ ap (λ (l : LocalPart). (advertised label content (record { local = l; remote = (end_at work.edge place).remote })).local) idle in
-      turns place end work next here turned said.puts
-      (due_turned plan me may work.edge next.edge place end here turned (record {
-        binds = λ at some. not_idle (sym local ∙ at);
-        withdraws = λ other told at gone. is_true
-            (stands_alike plan work.edge next.edge turned.alike place told
-            ∙ (ap (offer_stands place told) wished ∙ (ap (λ (c : Told). offer_stands place told (Some c)) (same_content (sym local ∙ at)) ∙ stands_itself place told)))
-            gone;
-      }) now.due) now
+      let next : Work = (says taken_all place.peer (mapping place.pw_id label content) (changes (advertising place label content) work)).work in
+      let one : HasTurned plan me may place (advertised label content (end_at work.edge place)) work next = advertises_turns plan me may place label content work here idle wished given now.due in
+      turns place (advertised label content (end_at work.edge place)) work next here one.turned one.puts one.due now
 
   withdraws_puts : (place : EndPlace) (label : ℕ) (content : Told) (work : Work) → IsEndOf plan me place → (end_at work.edge place).local ≡ Advertised label content
       → offer_stands place content (wish plan work.edge place) ≡ false → At work → At (withdraws taken_all place label content work).work
-  unfolding changes with_end with_kept
   withdraws_puts place label content work here told gone now =
-      let end : EndState = withdrawn (end_at work.edge place) in
-      let begun : Work = changes (withdrawing place) work in
-      let next : Work = (says taken_all place.peer (withdrawal place.pw_id label content) begun).work in
-      let said : HasSaid plan me may begun next =
-      says_puts plan me may place (withdrawal place.pw_id label content) Withdraws begun here (λ id. refl) (λ id. refl) (now.due.withdraws place here label content told gone) in
-      let turned : TurnsEnd place end work.edge next.edge = turned_by place end work.edge begun.edge next.edge refl refl refl refl refl refl (λ left. left) said.put in
-      let local : (end_at next.edge place).local ≡ Withdrawing label =
-      ap (λ (e : EndState). e.local) turned.here ∙ ap (λ (l : LocalPart). (withdrawn (record { local = l; remote = (end_at work.edge place).remote })).local) told in
-      turns place end work next here turned said.puts
-      (due_turned plan me may work.edge next.edge place end here turned (record {
-        binds = λ at some. not_idle_too (sym local ∙ at);
-        withdraws = λ other content at still. not_told (sym local ∙ at);
-      }) now.due) now
+      let next : Work = (withdraws taken_all place label content work).work in
+      let one : HasTurned plan me may place (withdrawn (end_at work.edge place)) work next = withdraws_turns plan me may place label content work here told gone now.due in
+      turns place (withdrawn (end_at work.edge place)) work next here one.turned one.puts one.due now
 
   -- where another status is told the same is due of labels
   due_retold : (place : EndPlace) (label : ℕ) (content : Told) (status : PwStatus) (end : EndState) (old new : EdgeState) → IsEndOf plan me place → TurnsEnd place end old new

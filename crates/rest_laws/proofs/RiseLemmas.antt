@@ -47,6 +47,7 @@ use Rattle.flight_laws.specs.Rules.{FarTells, TellsExpected, TellsOfWire}
 use Rattle.flight_laws.proofs.MendedRunLemmas.{IsMendedAt}
 use Rattle.flight_laws.proofs.PlaceLemmas.{IsEndOf, IsNamed, NamedEnd, end_of, named_is}
 use Rattle.flight_laws.proofs.WorksLemmas.{changed_edge}
+use Rattle.spelling_laws.proofs.PutLemmas.{changed_effects}
 use Rattle.rest_laws.specs.Levels.{Saying, Binds, Withdraws, Releases, States, Clears, address_stage, label_stage, levels_end, edges_spoken, status_stage, way_hangs, is_above, is_higher, level, level_at, level_by, level_of, pw_id_of, saying_of}
 use Rattle.rest_laws.proofs.DueLemmas.{PutsMore, PutsWell}
 use Rattle.rest_laws.specs.Rises.{AreSaidAt, HearingLightens, HearingRises, HoldsByPlan, IsByPlan, PutsAbove, left_above, put_most, said_count}
@@ -54,7 +55,6 @@ use Rattle.rest_laws.proofs.BindLemmas.{HoldsOther, tells_by}
 use Rattle.rest_laws.proofs.ClearLemmas.{clear_rises}
 use Rattle.rest_laws.proofs.CountLemmas.{count_joined, heard_few}
 use Rattle.rest_laws.proofs.HearLemmas.{release_rises, spoken_few}
-use Rattle.rest_laws.proofs.PutLemmas.{changed_effects}
 use Rattle.rest_laws.proofs.StatedLemmas.{stated_rises}
 use Rattle.rest_laws.proofs.StillLemmas.{mended_puts_none}
 use Rattle.rest_laws.proofs.WeightLemmas.{lighter}
@@ -131,17 +131,22 @@ module _ (plan : Plan) (checked : IsChecked plan) (edges : ℕ → EdgeState) (m
 
 -- ---- the end that a message names
 
--- a message that has a level names an end of the hearer
-record NamesEnd (plan : Plan) (edges : ℕ → EdgeState) (peer me : EdgeId) (message : Message) (least : ℕ) : Type 0 where
-  saying : Saying
-  says : saying_of message ≡ Some saying
-  place : EndPlace
-  here : IsEndOf plan me place
-  peer_is : place.peer ≡ peer
-  names : option_and_then (end_named plan me peer) (pw_id_of message) ≡ Some place
-  is : level edges place.wire.0 here.row peer.0 me.0 saying ≡ least
+-- a message that has a level names an end of the hearer, and the far one of its sender
+pub record NamesEnd (plan : Plan) (edges : ℕ → EdgeState) (peer me : EdgeId) (message : Message) (least : ℕ) : Type 0 where
+  pub saying : Saying
+  pub says : saying_of message ≡ Some saying
+  pub place : EndPlace
+  pub here : IsEndOf plan me place
+  pub peer_is : place.peer ≡ peer
+  pub names : option_and_then (end_named plan me peer) (pw_id_of message) ≡ Some place
+  pub is : level edges place.wire.0 here.row peer.0 me.0 saying ≡ least
+  pub far : EndPlace
+  pub far_names : option_and_then (end_named plan peer me) (pw_id_of message) ≡ Some far
+  pub far_wire : far.wire ≡ place.wire
+  pub far_peer : far.peer ≡ me
+  pub far_is : level_at plan edges peer.0 saying far ≡ Some least
 
-names_end : (plan : Plan) (checked : IsChecked plan) (edges : ℕ → EdgeState) (peer me : EdgeId) (message : Message) (least : ℕ) → level_of plan edges peer.0 me.0 message ≡ Some least
+pub names_end : (plan : Plan) (checked : IsChecked plan) (edges : ℕ → EdgeState) (peer me : EdgeId) (message : Message) (least : ℕ) → level_of plan edges peer.0 me.0 message ≡ Some least
     → NamesEnd plan edges peer me message least
 names_end plan checked edges peer me message least has = by_saying (saying_of message) refl has where
   at_place : (saying : Saying) (n : ℕ) (there : EndPlace) → saying_of message ≡ Some saying → pw_id_of message ≡ Some n → end_named plan peer me n ≡ Some there → level_at plan edges peer.0 saying there ≡ Some least
@@ -166,6 +171,11 @@ names_end plan checked edges peer me message least has = by_saying (saying_of me
         peer_is = here.peer_is;
         names = ap (option_and_then (end_named plan me peer)) names ∙ named_here;
         is = ap (λ (w : WireId). level edges w.0 here.holds.row peer.0 me.0 saying) near.wire_is ∙ (ap (λ (r : WirePlan). level edges there.wire.0 r peer.0 me.0 saying) rows ∙ of_row);
+        far = there;
+        far_names = ap (option_and_then (end_named plan peer me)) names ∙ named;
+        far_wire = sym near.wire_is;
+        far_peer = far.peer_is;
+        far_is = level_is;
       }
 
   by_place : (saying : Saying) (n : ℕ) → saying_of message ≡ Some saying → pw_id_of message ≡ Some n → (o : Option EndPlace) → end_named plan peer me n ≡ o
@@ -361,6 +371,17 @@ level_below edges wire row from to Releases on back = label_below (label_stage (
 level_below edges wire row from to States on back = states_below (not (is_mesh_class row.class) && follows row.path from to) (edges_spoken row from to) on
 level_below edges wire row from to Clears on back = clears_below (is_mesh_class row.class) (follows row.path from to) (edges_spoken row from to) on
 
+-- all levels are below the end of levels
+pub names_low : (plan : Plan) (checked : IsChecked plan) (edges : ℕ → EdgeState) (peer me : EdgeId) (message : Message) (least : ℕ) → NamesEnd plan edges peer me message least → least < levels_end
+names_low plan checked edges peer me message least names =
+    subst (λ (n : ℕ). n < levels_end) names.is
+    (level_below edges names.place.wire.0 names.here.row peer.0 me.0 names.saying
+    (spoken_few plan checked names.place.wire names.here.row peer.0 me.0 names.here.is (sym (joins_turned names.here.row.path me.0 peer.0) ∙ joined))
+    (spoken_few plan checked names.place.wire names.here.row me.0 peer.0 names.here.is joined))
+  where
+    joined : joins me.0 peer.0 names.here.row.path ≡ true
+    joined = ap (λ (k : EdgeId). joins me.0 k.0 names.here.row.path) (sym names.peer_is) ∙ names.here.joined
+
 fewer_left : (least level : ℕ) → least < level → least < levels_end → left_above level < left_above least
 fewer_left least level above low = omega (arith, above, low)
 
@@ -387,14 +408,8 @@ hearing_fewer plan checked edges me peer message least old new level_is puts = (
     names : NamesEnd plan edges peer me message least
     names = names_end plan checked edges peer me message least level_is
 
-    joined : joins me.0 peer.0 names.here.row.path ≡ true
-    joined = ap (λ (k : EdgeId). joins me.0 k.0 names.here.row.path) (sym names.peer_is) ∙ names.here.joined
-
     low : least < levels_end
-    low = subst (λ (n : ℕ). n < levels_end) names.is
-        (level_below edges names.place.wire.0 names.here.row peer.0 me.0 names.saying
-        (spoken_few plan checked names.place.wire names.here.row peer.0 me.0 names.here.is (sym (joins_turned names.here.row.path me.0 peer.0) ∙ joined))
-        (spoken_few plan checked names.place.wire names.here.row me.0 peer.0 names.here.is joined))
+    low = names_low plan checked edges peer me message least names
 
     itself : (n : ℕ) → n ≤ n
     itself n = omega arith

@@ -21,9 +21,9 @@ use Rattle.pw_signalling.specs.declared.told.Told.{Told}
 use Rattle.pw_signalling.specs.End.{EndState, LocalPart, Idle, Advertised, Withdrawing}
 use Rattle.pw_signalling.specs.Rows.{status_part}
 use Rattle.pw_stitch.specs.Passing.{own_point, passed_status, wanted}
-use Rattle.edge_model.specs.Across.{held_beyond, held_from, held_of, mate_of}
+use Rattle.edge_model.specs.Across.{held_beyond, held_from, held_of}
 use Rattle.edge_model.specs.declared.end_place.EndPlace.{EndPlace}
-use Rattle.edge_model.specs.EndPlaces.{end_places, is_named}
+use Rattle.edge_model.specs.EndPlaces.{end_places}
 use Rattle.edge_model.specs.Labels.{label_to_give}
 use Rattle.edge_model.specs.Mend.{is_new_choice, is_up_with, mends, offer_stands, passed_from, wish}
 use Rattle.edge_model.specs.Settled.{is_mended, is_told, tells_now, tells_wish}
@@ -40,13 +40,13 @@ use Rattle.net_base.specs.declared.plan.places.WireId.{WireId}
 use Rattle.net_base.proofs.CommonLemmas.{same_row}
 use Rattle.rest_laws.proofs.DueLemmas.{PutsMore}
 use Rattle.rest_laws.proofs.ChoiceLemmas.{choice_by_spokes}
-use Rattle.rest_laws.proofs.StatusLemmas.{mending_puts_moved, told_like}
+use Rattle.rest_laws.proofs.StatusLemmas.{mending_puts_moved, passed_is, told_here}
 use Rattle.rest_laws.proofs.StillLemmas.{no_new_choice}
 use Rattle.rest_laws.proofs.TakeLemmas.{first_goes}
 use Rattle.edge_model.specs.State.{EdgeState, end_at, with_chosen}
 use Rattle.flight_laws.proofs.AcrossLemmas.{other_side}
 use Rattle.flight_laws.proofs.MendedRunLemmas.{IsMendedAt}
-use Rattle.flight_laws.proofs.PlaceLemmas.{IsEndOf, NamedEnd, all-map, end_of, find_holds, named_is, places_are}
+use Rattle.flight_laws.proofs.PlaceLemmas.{IsEndOf, all-map, places_are}
 use Rattle.rest_laws.specs.Levels.{Clears, States, address_stage, is_above, level, edges_spoken, status_stage}
 use Rattle.rest_laws.proofs.BindLemmas.{HoldsOther, WishStays, stays_passing, stays_terminal, tells_by, wish_passing}
 use Rattle.rest_laws.proofs.HearLemmas.{above_is, above_like, mended_here, spoken_few}
@@ -192,28 +192,12 @@ module _ (plan : Plan) (checked : IsChecked plan) (edges : ℕ → EdgeState) (m
 
   -- ---- statuses
 
-  told_place : (p : EndPlace) → IsEndOf plan me p → is_told plan old p ≡ true
-  told_place p here =
-      let near : NamedEnd plan me p.peer p.wire here.row = end_of plan me p.peer p.wire here.row checked here.is here.joined in
-      let near_is : IsEndOf plan me near.place = (named_is plan me p.peer here.row.pw_id near.place near.named).holds in
-      let w : p.wire.0 ≡ near.place.wire.0 = ap (λ (x : WireId). x.0) (sym near.wire_is) in
-      told_like plan old p near.place w (ap (λ (x : EdgeId). x.0) (sym near.peer_is)) (same_side plan me p near.place here near_is w)
-      ∙ (find_holds (λ (x : EndPlace). is_told plan old x ≡ true) (is_named p.peer here.row.pw_id) (end_places plan me) near.place mended.statuses near.named).holds
-
   -- where the status to tell is as before, it was told
   same_told : (p : EndPlace) → IsEndOf plan me p → status_to_tell plan new p ≡ status_to_tell plan old p → is_told plan new p ≡ false → ⊥
   same_told p here same untold =
       let wrong : false ≡ true =
-      sym untold ∙ (ap (λ (s : PwStatus). tells_now s.0 (end_at new p).local) same ∙ (ap (tells_now (status_to_tell plan old p).0) (other.locals p.wire.0 p.peer.0) ∙ told_place p here)) in
+      sym untold ∙ (ap (λ (s : PwStatus). tells_now s.0 (end_at new p).local) same ∙ (ap (tells_now (status_to_tell plan old p).0) (other.locals p.wire.0 p.peer.0) ∙ told_here plan checked me old mended p here)) in
       absurd (cc (wrong))
-
-  passed_is : (edge : EdgeState) → edge.me ≡ me → (p : EndPlace) (here : IsEndOf plan me p) → p.terminal ≡ false → (from : Option EdgeId) → mate_on here.row.path me.0 p.peer.0 ≡ from
-      → status_to_tell plan edge p ≡ passed_status (held_from (held_of edge p.wire) from)
-  passed_is edge at p here switching from mated =
-      ap (λ (t : Bool). cond t (own_status plan edge p) (passed_status (held_beyond plan edge p))) switching
-      ∙ (ap (λ (o : Option WirePlan). passed_status (held_from (held_of edge p.wire) (mate_of edge.me p o))) here.is
-      ∙ (ap (λ (m : EdgeId). passed_status (held_from (held_of edge p.wire) (mate here.row m.0 p.peer.0))) at
-      ∙ ap (λ (o : Option EdgeId). passed_status (held_from (held_of edge p.wire) o)) mated))
 
   abbrev least : ℕ
   least = level edges q.wire.0 q_is.row q.peer.0 me.0 States
@@ -233,13 +217,13 @@ module _ (plan : Plan) (checked : IsChecked plan) (edges : ℕ → EdgeState) (m
         above_like plan edges me least p q.wire.0 p.peer.0 q_is.row States w refl q_is.is (status_onward p.peer.0 (other_side q_is.row.path me p.peer q.peer fit.once of_row))
 
     mates : (from : Option EdgeId) → mate_on here.row.path me.0 p.peer.0 ≡ from → is_above plan edges me.0 least p States ≡ true
-    mates None mated = absurd (same_told p here (passed_is new at_new p here switching None mated ∙ sym (passed_is old mended.me p here switching None mated)) untold)
+    mates None mated = absurd (same_told p here (passed_is plan me new at_new p here switching None mated ∙ sym (passed_is plan me old mended.me p here switching None mated)) untold)
     mates (Some from) mated = elim (cases_Bool (stands_at q p.wire.0 from.0)) [
       | inl same ↦ next from mated (eqb-true p.wire.0 q.wire.0 (first_holds (nat_eq p.wire.0 q.wire.0) (nat_eq from.0 q.peer.0) same))
           (eqb-true from.0 q.peer.0 (second_holds (nat_eq p.wire.0 q.wire.0) (nat_eq from.0 q.peer.0) same))
       | inr apart ↦ absurd (same_told p here
-          (passed_is new at_new p here switching (Some from) mated
-          ∙ (ap passed_status (other.remotes p.wire.0 from.0 apart) ∙ sym (passed_is old mended.me p here switching (Some from) mated))) untold)
+          (passed_is plan me new at_new p here switching (Some from) mated
+          ∙ (ap passed_status (other.remotes p.wire.0 from.0 apart) ∙ sym (passed_is plan me old mended.me p here switching (Some from) mated))) untold)
     ]
 
   -- ---- once the edge has chosen
@@ -271,7 +255,7 @@ module _ (plan : Plan) (checked : IsChecked plan) (edges : ℕ → EdgeState) (m
     told_now : (p : EndPlace) → IsEndOf plan me p → status_to_tell plan now p ≡ status_to_tell plan old p → is_told plan now p ≡ false → ⊥
     told_now p here same untold =
         let wrong : false ≡ true =
-        sym untold ∙ (ap (λ (s : PwStatus). tells_now s.0 (end_at now p).local) same ∙ (ap (tells_now (status_to_tell plan old p).0) (local_now p) ∙ told_place p here)) in
+        sym untold ∙ (ap (λ (s : PwStatus). tells_now s.0 (end_at now p).local) same ∙ (ap (tells_now (status_to_tell plan old p).0) (local_now p) ∙ told_here plan checked me old mended p here)) in
         absurd (cc (wrong))
 
     -- a switching point looks at no choice
@@ -280,8 +264,8 @@ module _ (plan : Plan) (checked : IsChecked plan) (edges : ℕ → EdgeState) (m
       by : (from : Option EdgeId) → mate_on here.row.path me.0 p.peer.0 ≡ from → is_told plan now p ≡ is_told plan new p
       by from mated =
           ap (λ (s : PwStatus). tells_now s.0 (end_at now p).local)
-          (passed_is now (same_me ∙ at_new) p here switching from mated
-          ∙ (ap (λ (all : ℕ → ℕ → EndState). passed_status (held_from (λ (k : ℕ). (all p.wire.0 k).remote) from)) same_ends ∙ sym (passed_is new at_new p here switching from mated)))
+          (passed_is plan me now (same_me ∙ at_new) p here switching from mated
+          ∙ (ap (λ (all : ℕ → ℕ → EndState). passed_status (held_from (λ (k : ℕ). (all p.wire.0 k).remote) from)) same_ends ∙ sym (passed_is plan me new at_new p here switching from mated)))
           ∙ ap (λ (all : ℕ → ℕ → EndState). tells_now (status_to_tell plan new p).0 (all p.wire.0 p.peer.0).local) same_ends
 
     -- a terminal end goes by its failure bits, and by what it is to the service

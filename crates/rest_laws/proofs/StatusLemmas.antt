@@ -7,6 +7,8 @@ use Rattle.net_base.specs.declared.plan.Plan.{Plan}
 use Rattle.net_base.specs.declared.plan.places.EdgeId.{EdgeId}
 use Rattle.net_base.specs.declared.plan.places.WireId.{WireId}
 use Rattle.net_base.specs.declared.plan.wire_plan.WirePlan.{WirePlan}
+use Rattle.net_base.specs.plan.Accepted.{IsChecked}
+use Rattle.net_base.specs.plan.Paths.{mate, mate_on}
 use Rattle.net_base.specs.plan.Places.{wire_row}
 use Rattle.net_values.proofs.BoolLemmas.{first_holds, second_holds}
 use Rattle.pw_tlvs.specs.declared.pw_status.PwStatus.{PwStatus}
@@ -20,7 +22,7 @@ use Rattle.pw_stitch.specs.Passing.{passed_status}
 use Rattle.spoke_redundancy.specs.Telling.{is_not_chosen}
 use Rattle.edge_model.specs.Across.{held_beyond, held_from, held_of, mate_of}
 use Rattle.edge_model.specs.declared.end_place.EndPlace.{EndPlace}
-use Rattle.edge_model.specs.EndPlaces.{end_places}
+use Rattle.edge_model.specs.EndPlaces.{end_places, is_named}
 use Rattle.edge_model.specs.Mend.{and_says, each_end, is_new_choice, mends, mends_choice, mends_end, mends_status, mends_status_of, telling_status, tells_new_status, tells_over, then_changes, tells_downs, forgets_downs}
 use Rattle.edge_model.specs.Put.{Spoken, stays}
 use Rattle.edge_model.specs.Role.{own_status, role_in, status_to_tell}
@@ -35,11 +37,13 @@ use Rattle.edge_model.proofs.ChoiceLemmas.{HasChosen, choosing_not}
 use Rattle.edge_model.proofs.MendLemmas.{mends_takes}
 use Rattle.edge_model.proofs.MendedLemmas.{mends_end_not}
 use Rattle.network_model.specs.Absorb.{taken_all}
-use Rattle.flight_laws.proofs.PlaceLemmas.{IsEndOf, places_are}
+use Rattle.flight_laws.proofs.MendedRunLemmas.{IsMendedAt}
+use Rattle.flight_laws.proofs.PlaceLemmas.{IsEndOf, NamedEnd, end_of, find_holds, named_is, places_are}
 use Rattle.flight_laws.proofs.WorksLemmas.{changed_edge}
+use Rattle.spelling_laws.proofs.PutLemmas.{changed_effects}
 use Rattle.rest_laws.specs.Levels.{Saying, Clears, States}
 use Rattle.rest_laws.proofs.DueLemmas.{PutsMore}
-use Rattle.rest_laws.proofs.PutLemmas.{HasSaid, TurnsEnd, WishesAlike, changed_effects, puts_not, puts_then, same_side, says_puts, stands_at, turned_by}
+use Rattle.rest_laws.proofs.PutLemmas.{HasSaid, TurnsEnd, WishesAlike, puts_not, puts_then, same_side, says_puts, stands_at, turned_by}
 use Rattle.rest_laws.proofs.StillLemmas.{choice_not, downs_put, each_not, forgets_put}
 
 -- ---- the status of now
@@ -75,6 +79,24 @@ pub told_like : (plan : Plan) (edge : EdgeState) (p q : EndPlace) → p.wire.0 �
 told_like plan edge p q w k t =
     ap (λ (n : ℕ). is_told plan edge (like n p.peer.0 p.terminal)) w
     ∙ (ap (λ (n : ℕ). is_told plan edge (like q.wire.0 n p.terminal)) k ∙ ap (λ (b : Bool). is_told plan edge (like q.wire.0 q.peer.0 b)) t)
+
+-- each end of an edge that has mended has told its status of now
+pub told_here : (plan : Plan) (checked : IsChecked plan) (me : EdgeId) (edge : EdgeState) → IsMendedAt plan me.0 edge → (p : EndPlace) → IsEndOf plan me p → is_told plan edge p ≡ true
+told_here plan checked me edge mended p here =
+    let near : NamedEnd plan me p.peer p.wire here.row = end_of plan me p.peer p.wire here.row checked here.is here.joined in
+    let near_is : IsEndOf plan me near.place = (named_is plan me p.peer here.row.pw_id near.place near.named).holds in
+    let w : p.wire.0 ≡ near.place.wire.0 = ap (λ (x : WireId). x.0) (sym near.wire_is) in
+    told_like plan edge p near.place w (ap (λ (x : EdgeId). x.0) (sym near.peer_is)) (same_side plan me p near.place here near_is w)
+    ∙ (find_holds (λ (x : EndPlace). is_told plan edge x ≡ true) (is_named p.peer here.row.pw_id) (end_places plan me) near.place mended.statuses near.named).holds
+
+-- a switching point tells the status that it holds on the other side
+pub passed_is : (plan : Plan) (me : EdgeId) (edge : EdgeState) → edge.me ≡ me → (p : EndPlace) (here : IsEndOf plan me p) → p.terminal ≡ false → (from : Option EdgeId)
+    → mate_on here.row.path me.0 p.peer.0 ≡ from → status_to_tell plan edge p ≡ passed_status (held_from (held_of edge p.wire) from)
+passed_is plan me edge at p here switching from mated =
+    ap (λ (t : Bool). cond t (own_status plan edge p) (passed_status (held_beyond plan edge p))) switching
+    ∙ (ap (λ (o : Option WirePlan). passed_status (held_from (held_of edge p.wire) (mate_of edge.me p o))) here.is
+    ∙ (ap (λ (m : EdgeId). passed_status (held_from (held_of edge p.wire) (mate here.row m.0 p.peer.0))) at
+    ∙ ap (λ (o : Option EdgeId). passed_status (held_from (held_of edge p.wire) o)) mated))
 
 -- a step that does nothing leaves the work, whatever failed before
 each_leaves : (mend : EndPlace → Work → Spoken) (work : Work) → ((place : EndPlace) → mend place work ≡ stays work) → (places : List EndPlace) (failed : Bool)
@@ -229,57 +251,63 @@ module _ (plan : Plan) (me : EdgeId) (may : EndPlace → Saying → Bool) (befor
   each_move first [] all m now = now
   each_move first (q ∷ places) all m now = each_move first places all.1 (and_says m (mends_choice plan taken_all before q)) (move_step first q m.work all.0 now)
 
--- where ends tell what they should but for statuses, mending puts the statuses that are due by the new choice, and withdraws addresses on
--- the spokes that are chosen anew
-pub mending_puts_moved : (plan : Plan) (me : EdgeId) (may : EndPlace → Saying → Bool) (work : Work) → work.edge.me ≡ me
-    → AllByRecursion (λ place. is_mended plan work.edge place ≡ true) (end_places plan me)
-    → ((p : EndPlace) → IsEndOf plan me p → is_told plan (choosing plan work.edge) p ≡ false → may p States ≡ true)
-    → ((p : EndPlace) → IsEndOf plan me p → is_new_choice work.edge.chosen (choosing plan work.edge).chosen p.wire (wire_row plan p.wire) ≡ true → may p Clears ≡ true)
+-- mending puts what it puts of labels, and then the statuses that are due by the new choice, and withdraws addresses on the spokes that are
+-- chosen anew
+pub mending_puts_then : (plan : Plan) (me : EdgeId) (may : EndPlace → Saying → Bool) (work : Work) → work.edge.me ≡ me
+    → (first : Spoken) → each_end (mends_end plan taken_all) (end_places plan me) (stays work) ≡ first → first.work.edge.me ≡ me → PutsMore plan me may work.effects first.work.effects
+    → ((p : EndPlace) → IsEndOf plan me p → is_told plan (choosing plan first.work.edge) p ≡ false → may p States ≡ true)
+    → ((p : EndPlace) → IsEndOf plan me p → is_new_choice work.edge.chosen (choosing plan first.work.edge).chosen p.wire (wire_row plan p.wire) ≡ true → may p Clears ≡ true)
     → PutsMore plan me may work.effects (mends plan taken_all work).effects
-mending_puts_moved plan me may work at ends due new =
-    subst (λ (w : Work). PutsMore plan me may work.effects w.effects) (sym (mends_takes plan taken_all (λ k. refl) work))
-    (subst (λ (s : Spoken). PutsMore plan me may work.effects (tells_downs plan places (forgets_downs plan places (moved (each_end (mends_status plan taken_all) places (then_changes (choosing plan) s))).work)).effects) (sym first_not)
+mending_puts_then plan me may work at first first_is first_at labels due new =
+    subst (λ (w : Work). PutsMore plan me may work.effects w.effects) (sym (mends_takes plan taken_all (λ k. refl) work ∙ ap passes (ap (end_places plan) at)))
+    (subst (λ (s : Spoken). PutsMore plan me may work.effects (tells_downs plan places (forgets_downs plan places (moved (each_end (mends_status plan taken_all) places (then_changes (choosing plan) s))).work)).effects) (sym first_is)
     (puts_then plan me may work.effects (forgets_downs plan places last.work).effects (tells_downs plan places (forgets_downs plan places last.work)).effects
     (puts_then plan me may work.effects last.work.effects (forgets_downs plan places last.work).effects moving.puts (forgets_put plan me may places last.work))
     (downs_put plan me may places (forgets_downs plan places last.work))))
   where
     places : List EndPlace
-    places = end_places plan work.edge.me
+    places = end_places plan me
+
+    passes : List EndPlace → Work
+    passes ps = tells_downs plan ps (forgets_downs plan ps
+        (each_end (mends_choice plan taken_all work.edge.chosen) ps (each_end (mends_status plan taken_all) ps (then_changes (choosing plan) (each_end (mends_end plan taken_all) ps (stays work))))).work)
 
     moved : Spoken → Spoken
     moved = each_end (mends_choice plan taken_all work.edge.chosen) places
 
     chose : Work
-    chose = changes (choosing plan) work
+    chose = changes (choosing plan) first.work
 
     told : Spoken
-    told = each_end (mends_status plan taken_all) places (then_changes (choosing plan) (stays work))
+    told = each_end (mends_status plan taken_all) places (then_changes (choosing plan) first)
 
     last : Spoken
     last = moved told
 
-    mended : AllByRecursion (λ place. is_mended plan work.edge place ≡ true) places
-    mended = subst (λ (k : EdgeId). AllByRecursion (λ place. is_mended plan work.edge place ≡ true) (end_places plan k)) (sym at) ends
-
-    first_not : each_end (mends_end plan taken_all) places (stays work) ≡ stays work
-    first_not = each_not (mends_end plan taken_all) work (is_mended plan work.edge) (λ place is. mends_end_not plan taken_all place work is) places mended
-
-    all : AllByRecursion (IsEndOf plan me) places
-    all = subst (λ (k : EdgeId). AllByRecursion (IsEndOf plan me) (end_places plan k)) (sym at) (places_are plan me)
-
-    edge_is : chose.edge ≡ choosing plan work.edge
-    edge_is = changed_edge (choosing plan) work
+    edge_is : chose.edge ≡ choosing plan first.work.edge
+    edge_is = changed_edge (choosing plan) first.work
 
     telling : IsTelling plan me may chose.edge.chosen work told.work
-    telling = each_status plan me may chose.edge.chosen work places all (then_changes (choosing plan) (stays work)) (record {
-      at = ap (λ (e : EdgeState). e.me) edge_is ∙ (chosen_me plan work.edge ∙ at);
+    telling = each_status plan me may chose.edge.chosen work places (places_are plan me) (then_changes (choosing plan) first) (record {
+      at = ap (λ (e : EdgeState). e.me) edge_is ∙ (chosen_me plan first.work.edge ∙ first_at);
       same = refl;
       due = λ p here untold. due p here (ap (λ (e : EdgeState). is_told plan e p) (sym edge_is) ∙ untold);
-      puts = subst (λ (es : List Effect). PutsMore plan me may work.effects es) (sym (changed_effects (choosing plan) work)) (puts_not plan me may work.effects);
+      puts = subst (λ (es : List Effect). PutsMore plan me may work.effects es) (sym (changed_effects (choosing plan) first.work)) labels;
     })
 
     new_there : (p : EndPlace) → IsEndOf plan me p → is_new_choice work.edge.chosen chose.edge.chosen p.wire (wire_row plan p.wire) ≡ true → may p Clears ≡ true
     new_there p here is = new p here (ap (λ (e : EdgeState). is_new_choice work.edge.chosen e.chosen p.wire (wire_row plan p.wire)) (sym edge_is) ∙ is)
 
     moving : IsMoving plan me may work.edge.chosen chose.edge.chosen new_there work last.work
-    moving = each_move plan me may work.edge.chosen chose.edge.chosen new_there work places all told (record { at = telling.at; same = telling.same; puts = telling.puts })
+    moving = each_move plan me may work.edge.chosen chose.edge.chosen new_there work places (places_are plan me) told (record { at = telling.at; same = telling.same; puts = telling.puts })
+
+-- so where ends tell what they should but for statuses
+pub mending_puts_moved : (plan : Plan) (me : EdgeId) (may : EndPlace → Saying → Bool) (work : Work) → work.edge.me ≡ me
+    → AllByRecursion (λ place. is_mended plan work.edge place ≡ true) (end_places plan me)
+    → ((p : EndPlace) → IsEndOf plan me p → is_told plan (choosing plan work.edge) p ≡ false → may p States ≡ true)
+    → ((p : EndPlace) → IsEndOf plan me p → is_new_choice work.edge.chosen (choosing plan work.edge).chosen p.wire (wire_row plan p.wire) ≡ true → may p Clears ≡ true)
+    → PutsMore plan me may work.effects (mends plan taken_all work).effects
+mending_puts_moved plan me may work at ends due new =
+    mending_puts_then plan me may work at (stays work)
+    (each_not (mends_end plan taken_all) work (is_mended plan work.edge) (λ place is. mends_end_not plan taken_all place work is) (end_places plan me) ends) at
+    (puts_not plan me may work.effects) due new

@@ -33,12 +33,13 @@ use Rattle.network_model.specs.Absorb.{taken_all}
 use Rattle.flight_laws.specs.Rules.{FarTells}
 use Rattle.flight_laws.proofs.MendedRunLemmas.{IsMendedAt}
 use Rattle.flight_laws.proofs.PlaceLemmas.{IsEndOf, named_is}
+use Rattle.spelling_laws.proofs.PutLemmas.{changed_effects}
 use Rattle.rest_laws.specs.Levels.{Saying, Binds, Withdraws, Releases, bits_of, hangs, is_above, label_stage, level, edges_spoken, way_hangs}
 use Rattle.rest_laws.proofs.DueLemmas.{PutsMore}
 use Rattle.rest_laws.proofs.BindLemmas.{HoldsOther, other_due, tells_by}
 use Rattle.rest_laws.proofs.HearLemmas.{above_is, clears_above, spoken_few, states_above}
 use Rattle.flight_laws.proofs.WorksLemmas.{changed_edge}
-use Rattle.rest_laws.proofs.PutLemmas.{HasPut, HasSaid, changed_effects, end_else, mending_puts_due, puts_then, says_puts, stands_at}
+use Rattle.rest_laws.proofs.PutLemmas.{HasPut, HasSaid, end_else, mending_puts_due, puts_then, says_puts, stands_at}
 
 -- ---- what a way hangs on
 

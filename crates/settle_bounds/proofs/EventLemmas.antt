@@ -1,5 +1,5 @@
 -- What an edge that had mended puts when a session comes up, or ends.
-use Rattle.std.proofs.Common.{◌≡◌, ◌≤◌, ◌+◌, ◌++◌, ◌∙◌, ◌&&◌, ◌⊎◌, ℕ, Bool, true, false, cond, is_some, nat_eq, List, [], ◌∷◌, Option, Some, None, refl, sym, ap, subst, arith, inl, inr}
+use Rattle.std.proofs.Common.{◌≡◌, ◌≤◌, ◌+◌, ◌++◌, ◌∙◌, ◌&&◌, ◌||◌, ◌⊎◌, ℕ, Bool, true, false, cond, is_some, nat_eq, List, [], ◌∷◌, Option, Some, None, refl, sym, ap, subst, arith, inl, inr}
 use Rattle.std.proofs.lemmas.Bool.{cases_Bool, eqb-true}
 use Rattle.std.proofs.lemmas.List.{append_cancel_left}
 use Rattle.std.specs.List.{AllByRecursion}
@@ -7,6 +7,7 @@ use Rattle.net_values.proofs.BoolLemmas.{clash}
 use Rattle.net_values.proofs.NumberLemmas.{same_number}
 use Rattle.net_base.specs.declared.plan.Plan.{Plan}
 use Rattle.net_base.specs.declared.plan.places.EdgeId.{EdgeId}
+use Rattle.net_base.specs.declared.plan.places.ServiceId.{ServiceId}
 use Rattle.net_base.specs.declared.plan.wire_plan.WirePlan.{WirePlan}
 use Rattle.net_base.specs.plan.Accepted.{IsChecked}
 use Rattle.net_base.specs.plan.Paths.{mate_on}
@@ -23,7 +24,10 @@ use Rattle.edge_model.specs.declared.effect.Effect.{Effect}
 use Rattle.edge_model.specs.declared.end_place.EndPlace.{EndPlace}
 use Rattle.edge_model.specs.Labels.{keeps_lost, keeps_one, label_to_give}
 use Rattle.edge_model.specs.Mend.{is_up_with, mends, offer_stands, wish, wish_by, wish_of}
+use Rattle.edge_model.specs.Role.{status_to_tell}
 use Rattle.edge_model.specs.Session.{happens, happens_with_ends, losing_ends}
+use Rattle.edge_model.specs.Settled.{is_told, tells_now}
+use Rattle.edge_model.specs.Spokes.{is_spoke_row}
 use Rattle.edge_model.specs.State.{EdgeState, Peering, end_at, has_end, is_there, with_ends_beside, with_kept}
 use Rattle.edge_model.specs.Work.{Work, changes}
 use Rattle.edge_model.proofs.HeldLemmas.{clears_keep}
@@ -37,13 +41,35 @@ use Rattle.rest_laws.specs.Levels.{Saying, Binds, Withdraws, Releases, States, C
 use Rattle.rest_laws.proofs.ClearLemmas.{put_mended}
 use Rattle.rest_laws.proofs.DueLemmas.{IsDue, PutsMore, PutsWell}
 use Rattle.rest_laws.proofs.HearLemmas.{due_after, same_to_give}
-use Rattle.rest_laws.proofs.PutLemmas.{mending_puts_due}
 use Rattle.quiet_laws.proofs.ToldLemmas.{TellsMore}
 use Rattle.settle_bounds.specs.Bound.{allowed, is_peer, may_fall, may_rise}
-use Rattle.settle_bounds.specs.Worth.{gate, mend_cost, worth_at}
-use Rattle.settle_bounds.proofs.NearLemmas.{TellsAlike, tells_alike}
-use Rattle.settle_bounds.proofs.WalkLemmas.{AreSlots, Walks, mends_walk, slots_sum}
+use Rattle.settle_bounds.specs.Worth.{gate, mend_cost, starts_spoke, worth_at}
+use Rattle.settle_bounds.proofs.ChosenLemmas.{mending_puts_chosen, own_same, passed_same, told_still}
+use Rattle.settle_bounds.proofs.NearLemmas.{TellsAlike, either_second, tells_alike}
+use Rattle.settle_bounds.proofs.WalkLemmas.{AreSlots, Walks, mends_walk, slots_sum, spoke_row_starts}
 use Rattle.settle_bounds.proofs.WorthLemmas.{AllSlots, may_all, paid, slots_both, slots_less, told_least}
+
+-- ---- places of the same wire, beside the same peer
+
+pub rise_like : (plan : Plan) (me : EdgeId) (peer : ℕ) (p q : EndPlace) (s : Saying) → p.wire.0 ≡ q.wire.0 → p.peer.0 ≡ q.peer.0 → may_rise plan me peer p s ≡ may_rise plan me peer q s
+rise_like plan me peer p q Binds w k = ap (λ (n : ℕ). nat_eq n peer) k
+rise_like plan me peer p q Withdraws w k = refl
+rise_like plan me peer p q Releases w k = ap (λ (n : ℕ). starts_spoke me (wire_row plan (record { 0 = n }))) w
+rise_like plan me peer p q States w k = ap (λ (n : ℕ). starts_spoke me (wire_row plan (record { 0 = n }))) w
+rise_like plan me peer p q Clears w k = ap (λ (n : ℕ). starts_spoke me (wire_row plan (record { 0 = n }))) w
+
+beyond_like : (plan : Plan) (me : EdgeId) (peer : ℕ) (p q : EndPlace) → p.wire.0 ≡ q.wire.0 → p.peer.0 ≡ q.peer.0
+    → is_peer peer (mate_of me p (wire_row plan p.wire)) ≡ is_peer peer (mate_of me q (wire_row plan q.wire))
+beyond_like plan me peer p q w k =
+    ap (λ (n : ℕ). is_peer peer (mate_of me (Rattle.settle_bounds.specs.Worth.beside n p.peer.0) (wire_row plan (record { 0 = n })))) w
+    ∙ ap (λ (n : ℕ). is_peer peer (mate_of me (Rattle.settle_bounds.specs.Worth.beside q.wire.0 n) (wire_row plan q.wire))) k
+
+pub fall_like : (plan : Plan) (me : EdgeId) (peer : ℕ) (p q : EndPlace) (s : Saying) → p.wire.0 ≡ q.wire.0 → p.peer.0 ≡ q.peer.0 → may_fall plan me peer p s ≡ may_fall plan me peer q s
+fall_like plan me peer p q Binds w k = beyond_like plan me peer p q w k
+fall_like plan me peer p q Withdraws w k = beyond_like plan me peer p q w k
+fall_like plan me peer p q Releases w k = ap (λ (n : ℕ). starts_spoke me (wire_row plan (record { 0 = n }))) w
+fall_like plan me peer p q States w k = λ i. beyond_like plan me peer p q w k i || starts_spoke me (wire_row plan (record { 0 = w i }))
+fall_like plan me peer p q Clears w k = ap (λ (n : ℕ). starts_spoke me (wire_row plan (record { 0 = n }))) w
 
 -- ---- an edge after an event
 
@@ -121,8 +147,8 @@ module _ (plan : Plan) (checked : IsChecked plan) (me peer : EdgeId) (event : Se
         ]
 
     -- it has come up: its ends are mapped
-    rise_due : is_up_with (work.edge.peering peer.0) ≡ false → IsDue plan me (may_rise peer.0) next.edge
-    rise_due down = due_after plan checked me (may_rise peer.0) work.edge next.edge mended (λ left. ap (λ (o : Option ℕ). is_some o) (sym labels_same) ∙ left) binds withdraws where
+    rise_due : is_up_with (work.edge.peering peer.0) ≡ false → IsDue plan me (may_rise plan me peer.0) next.edge
+    rise_due down = due_after plan checked me (may_rise plan me peer.0) work.edge next.edge mended (λ left. ap (λ (o : Option ℕ). is_some o) (sym labels_same) ∙ left) binds withdraws where
       local : (p : EndPlace) → (end_at work.edge p).local ≡ (end_at next.edge p).local
       local p = ap (λ (all : ℕ → ℕ → EndState). (all p.wire.0 p.peer.0).local) (sym ends_same)
 
@@ -137,21 +163,32 @@ module _ (plan : Plan) (checked : IsChecked plan) (me peer : EdgeId) (event : Se
       })
 
       binds : (p : EndPlace) → IsEndOf plan me p → (end_at next.edge p).local ≡ Idle false → is_some (wish plan next.edge p) ≡ true
-          → ((end_at work.edge p).local ≡ Idle false) × (is_some (wish plan work.edge p) ≡ true) ⊎ (may_rise peer.0 p Binds ≡ true)
+          → ((end_at work.edge p).local ≡ Idle false) × (is_some (wish plan work.edge p) ≡ true) ⊎ (may_rise plan me peer.0 p Binds ≡ true)
       binds p here idle some = elim (cases_Bool (nat_eq p.peer.0 peer.0)) [
         | inl beside ↦ inr beside
         | inr away ↦ inl (local p ∙ idle, sym (alike p here away).some ∙ some)
       ]
 
       withdraws : (p : EndPlace) → IsEndOf plan me p → (label : ℕ) (content : Told) → (end_at next.edge p).local ≡ Advertised label content → offer_stands p content (wish plan next.edge p) ≡ false
-          → ((end_at work.edge p).local ≡ Advertised label content) × (offer_stands p content (wish plan work.edge p) ≡ false) ⊎ (may_rise peer.0 p Withdraws ≡ true)
+          → ((end_at work.edge p).local ≡ Advertised label content) × (offer_stands p content (wish plan work.edge p) ≡ false) ⊎ (may_rise plan me peer.0 p Withdraws ≡ true)
       withdraws p here label content told gone = elim (cases_Bool (nat_eq p.peer.0 peer.0)) [
         | inl beside ↦ inl (local p ∙ told, ap (offer_stands p content) (wish_down plan work.edge p (ap (λ (n : ℕ). is_up_with (work.edge.peering n)) (eqb-true p.peer.0 peer.0 beside) ∙ down)))
         | inr away ↦ inl (local p ∙ told, sym ((alike p here away).stands content) ∙ gone)
       ]
 
-    pub rise_puts : is_up_with (work.edge.peering peer.0) ≡ false → PutsMore plan me (may_rise peer.0) next.effects (mends plan taken_all next).effects
-    rise_puts down = mending_puts_due plan me (may_rise peer.0) next next_me (rise_due down) (λ p here. refl) (λ p here. refl)
+    pub rise_puts : is_up_with (work.edge.peering peer.0) ≡ false → PutsMore plan me (may_rise plan me peer.0) next.effects (mends plan taken_all next).effects
+    rise_puts down = mending_puts_chosen plan me (may_rise plan me peer.0) (rise_like plan me peer.0) next next_me (rise_due down)
+        (λ p here untold. clash (sym untold ∙ told_still plan checked me work.edge next.edge mended p here (ap (λ (all : ℕ → ℕ → EndState). (all p.wire.0 p.peer.0).local) ends_same) (status_risen p here)))
+        (λ service. inl (λ p here spoke. (spoke_may p here service spoke, spoke_may p here service spoke)))
+      where
+        spoke_may : (p : EndPlace) → IsEndOf plan me p → (service : ServiceId) → is_spoke_row service me (wire_row plan p.wire) ≡ true → starts_spoke me (wire_row plan p.wire) ≡ true
+        spoke_may p here service spoke = spoke_row_starts me service (wire_row plan p.wire) spoke
+
+        status_risen : (p : EndPlace) → IsEndOf plan me p → status_to_tell plan next.edge p ≡ status_to_tell plan work.edge p
+        status_risen p here = by p.terminal refl where
+          by : (t : Bool) → p.terminal ≡ t → status_to_tell plan next.edge p ≡ status_to_tell plan work.edge p
+          by true terminal = own_same plan work.edge next.edge p terminal besides.me besides.bits besides.chosen
+          by false switching = passed_same plan me work.edge next.edge mended.me next_me p here switching (λ from mated. ap (λ (all : ℕ → ℕ → EndState). (all p.wire.0 from.0).remote) ends_same)
 
   -- ---- it has ended
 
@@ -241,7 +278,31 @@ module _ (plan : Plan) (checked : IsChecked plan) (me peer : EdgeId) (event : Se
       ]
 
     pub fall_puts : PutsMore plan me (may_fall plan me peer.0) next.effects (mends plan taken_all next).effects
-    fall_puts = mending_puts_due plan me (may_fall plan me peer.0) next next_me fall_due (λ p here. refl) (λ p here. refl)
+    fall_puts = mending_puts_chosen plan me (may_fall plan me peer.0) (fall_like plan me peer.0) next next_me fall_due told_fallen
+        (λ service. inl (λ p here spoke. (
+          either_second (is_peer peer.0 (mate_of me p (wire_row plan p.wire))) (starts_spoke me (wire_row plan p.wire)) (spoke_row_starts me service (wire_row plan p.wire) spoke),
+          spoke_row_starts me service (wire_row plan p.wire) spoke,
+        )))
+      where
+        fresh_told : (status : ℕ) → tells_now status (end_spec.fresh).local ≡ true
+        fresh_told status = refl
+
+        -- beyond an end that is gone another status may be due
+        told_fallen : (p : EndPlace) → IsEndOf plan me p → is_told plan next.edge p ≡ false → may_fall plan me peer.0 p States ≡ true
+        told_fallen p here untold = elim (cases_Bool (nat_eq p.peer.0 peer.0)) [
+          | inl beside ↦ clash (sym untold ∙ (ap (λ (e : EndState). tells_now (status_to_tell plan next.edge p).0 e.local) (end_lost p beside) ∙ fresh_told (status_to_tell plan next.edge p).0))
+          | inr away ↦ elim (cases_Bool (is_peer peer.0 (mate_of me p (wire_row plan p.wire)))) [
+            | inl beyond ↦ rw beyond refl
+            | inr not_beyond ↦ clash (sym untold ∙ told_still plan checked me work.edge next.edge mended p here (ap (λ (e : EndState). e.local) (besides.ends p.wire.0 p.peer.0 away)) (status_fallen p here away not_beyond))
+          ]
+        ] where
+          status_fallen : (p : EndPlace) (here : IsEndOf plan me p) → nat_eq p.peer.0 peer.0 ≡ false → is_peer peer.0 (mate_of me p (wire_row plan p.wire)) ≡ false
+              → status_to_tell plan next.edge p ≡ status_to_tell plan work.edge p
+          status_fallen p here away not_beyond = by p.terminal refl where
+            by : (t : Bool) → p.terminal ≡ t → status_to_tell plan next.edge p ≡ status_to_tell plan work.edge p
+            by true terminal = own_same plan work.edge next.edge p terminal besides.me besides.bits besides.chosen
+            by false switching = passed_same plan me work.edge next.edge mended.me next_me p here switching (λ from mated. ap (λ (e : EndState). e.remote) (besides.ends p.wire.0 from.0
+                (ap (is_peer peer.0) (sym mated) ∙ (ap (λ (o : Option WirePlan). is_peer peer.0 (mate_of me p o)) (sym here.is) ∙ not_beyond))))
 
 -- ---- what that costs
 
@@ -276,23 +337,3 @@ module _ (plan : Plan) (checked : IsChecked plan) (edges : ℕ → EdgeState) (m
       may_them : AllSlots (λ p s. may p s ≡ true) walks.slots
       may_them = may_all plan checked edges me may like tells.more tells.told walks.slots tells.are slots
           (subst (λ (es : List Effect). AllByRecursion (PutsWell plan me may) es) (same_more puts.more puts.joined) puts.well)
-
-pub rise_like : (peer : ℕ) (p q : EndPlace) (s : Saying) → p.wire.0 ≡ q.wire.0 → p.peer.0 ≡ q.peer.0 → may_rise peer p s ≡ may_rise peer q s
-rise_like peer p q Binds w k = ap (λ (n : ℕ). nat_eq n peer) k
-rise_like peer p q Withdraws w k = refl
-rise_like peer p q Releases w k = refl
-rise_like peer p q States w k = refl
-rise_like peer p q Clears w k = refl
-
-beyond_like : (plan : Plan) (me : EdgeId) (peer : ℕ) (p q : EndPlace) → p.wire.0 ≡ q.wire.0 → p.peer.0 ≡ q.peer.0
-    → is_peer peer (mate_of me p (wire_row plan p.wire)) ≡ is_peer peer (mate_of me q (wire_row plan q.wire))
-beyond_like plan me peer p q w k =
-    ap (λ (n : ℕ). is_peer peer (mate_of me (Rattle.settle_bounds.specs.Worth.beside n p.peer.0) (wire_row plan (record { 0 = n })))) w
-    ∙ ap (λ (n : ℕ). is_peer peer (mate_of me (Rattle.settle_bounds.specs.Worth.beside q.wire.0 n) (wire_row plan q.wire))) k
-
-pub fall_like : (plan : Plan) (me : EdgeId) (peer : ℕ) (p q : EndPlace) (s : Saying) → p.wire.0 ≡ q.wire.0 → p.peer.0 ≡ q.peer.0 → may_fall plan me peer p s ≡ may_fall plan me peer q s
-fall_like plan me peer p q Binds w k = beyond_like plan me peer p q w k
-fall_like plan me peer p q Withdraws w k = beyond_like plan me peer p q w k
-fall_like plan me peer p q Releases w k = refl
-fall_like plan me peer p q States w k = refl
-fall_like plan me peer p q Clears w k = refl

@@ -18,9 +18,7 @@ use Rattle.edge_model.specs.declared.effect.Effect.{Effect}
 use Rattle.edge_model.specs.declared.effect.Effect.TheVariants as effect
 use Rattle.edge_model.specs.Hear.{acts_on, hears_message, hears_one, is_up_phase}
 use Rattle.edge_model.specs.Mend.{is_operational, is_up_with, mends}
-use Rattle.edge_model.specs.EndPlaces.{end_places}
 use Rattle.edge_model.specs.Session.{happens_with_ends, with_session}
-use Rattle.edge_model.specs.Settled.{is_mended, is_told}
 use Rattle.edge_model.specs.State.{EdgeState, Peering, has_end, is_there, with_peering}
 use Rattle.edge_model.specs.Work.{Work, changes}
 use Rattle.network_model.specs.Absorb.{taken_all}
@@ -28,7 +26,6 @@ use Rattle.network_model.specs.State.{NetworkState}
 use Rattle.flight_laws.specs.Across.{IsMappingTaken}
 use Rattle.flight_laws.specs.Ends.{HasTypes, ends_at}
 use Rattle.flight_laws.specs.Messages.{IsSaidAcross}
-use Rattle.flight_laws.specs.Pair.{AreTalking}
 use Rattle.flight_laws.specs.Rules.{AllMessages}
 use Rattle.flight_laws.proofs.HearLemmas.{HearsOn, hears_kept}
 use Rattle.flight_laws.proofs.HearingLemmas.{KeptByHearing, KeptByMessages, message_heard}
@@ -36,16 +33,20 @@ use Rattle.flight_laws.proofs.MendedRunLemmas.{IsMendedAt}
 use Rattle.flight_laws.proofs.MendingLemmas.{mends_keep}
 use Rattle.flight_laws.proofs.RuledHearLemmas.{IsHearing, hearing_ruled}
 use Rattle.flight_laws.proofs.SaidLemmas.{fatal_ends}
+use Rattle.spelling_laws.proofs.PutLemmas.{changed_effects}
+use Rattle.spelling_laws.proofs.WorkLemmas.{hears_standing, talk_at}
+use Rattle.spelling_laws.proofs.SessionLemmas.{moved_stands}
+use Rattle.quiet_laws.proofs.FallLemmas.{has_mended}
 use Rattle.rest_laws.specs.Levels.{level_of}
-use Rattle.rest_laws.specs.Rises.{HasMended, PutsAbove, put_most}
+use Rattle.rest_laws.specs.Rises.{PutsAbove, put_most}
 use Rattle.rest_laws.proofs.ClearLemmas.{put_mended}
 use Rattle.rest_laws.proofs.DeliverLemmas.{HasLevel, class_of, goes_by_plan, holds_by_plan, waits_put}
 use Rattle.rest_laws.proofs.DueLemmas.{PutsMore, PutsWell}
-use Rattle.rest_laws.proofs.PutLemmas.{HasPut, changed_effects}
+use Rattle.rest_laws.proofs.PutLemmas.{HasPut}
 use Rattle.rest_laws.proofs.RiseLemmas.{hearing_rises}
 use Rattle.rest_laws.proofs.StillLemmas.{mended_puts_none}
 use Rattle.quiet_laws.specs.Measure.{end_rank, phase_rank}
-use Rattle.quiet_laws.proofs.ToldLemmas.{AreTold, MovesBy, MovesFew, MovesOn, Put, TellsMore, Told, hears_standing, moved_stands, moves_not, moves_then, received_few, received_moves, sender_is, tells_not, told_joined, told_kept, told_messages}
+use Rattle.quiet_laws.proofs.ToldLemmas.{AreTold, MovesBy, MovesFew, MovesOn, Put, TellsMore, Told, moves_not, moves_then, received_few, received_moves, sender_is, tells_not, told_joined, told_kept, told_messages}
 use Rattle.settle_bounds.specs.Bound.{end_worth, fall_cost, lone_worth, may_fall, may_rise, messages_worth, phase_worth, rise_cost}
 use Rattle.settle_bounds.specs.Worth.{mend_cost, message_worth}
 use Rattle.settle_bounds.proofs.EventLemmas.{fall_like, fall_puts, mending_pays, next_me, rise_like, rise_puts, still_mended}
@@ -68,13 +69,6 @@ mended_paid plan checked edges me work mended tells =
     let puts : PutsMore plan me (λ place saying. false) work.effects (mends plan taken_all work).effects = mended_puts_none plan me (λ place saying. false) work mended in
     none_paid plan checked edges me puts.more tells.told puts.well
     (subst (λ (es : List Effect). AreTold plan me.0 es tells.told) (append_cancel_left work.effects tells.more puts.more (sym tells.joined ∙ puts.joined)) tells.are)
-
-has_mended : (plan : Plan) (me : EdgeId) (edge : EdgeState) → IsMendedAt plan me.0 edge → HasMended plan edge
-has_mended plan me edge mended = record {
-  ends = subst (λ (k : EdgeId). AllByRecursion (λ place. is_mended plan edge place ≡ true) (end_places plan k)) (sym mended.me) mended.ends;
-  statuses = subst (λ (k : EdgeId). AllByRecursion (λ place. is_told plan edge place ≡ true) (end_places plan k)) (sym mended.me) mended.statuses;
-  chosen = mended.chosen;
-}
 
 -- ---- how far a session has to go
 
@@ -265,10 +259,6 @@ module _ (plan : Plan) (checked : IsChecked plan) (types : HasTypes plan) (later
 
   -- ---- the session moves
 
-  talk_at : (m : Message) (messages : List Message) (kept : Peering) (work : Work) → work.edge.peering peer.0 ≡ Some kept → (hears : HearsOn plan later me peer (m ∷ messages) work)
-      → AreTalking (ends_at plan me.0 peer.0) other_end (Some kept) ((later.edges peer.0).peering me.0) hears.meets.messages (m ∷ messages)
-  talk_at m messages kept work at hears = rw at at hears.meets.talk
-
   module _ (m : Message) (messages : List Message) (kept : Peering) (work : Work) (at : work.edge.peering peer.0 ≡ Some kept) (said : IsSaidAcross other_end m)
       (why : (is_up_phase kept.session.phase ≡ false) ⊎ (is_fatal m ≡ true)) (hears : HearsOn plan later me peer (m ∷ messages) work) (mended : IsMendedAt plan me.0 work.edge) where
     abbrev pub event : Work
@@ -281,7 +271,7 @@ module _ (plan : Plan) (checked : IsChecked plan) (types : HasTypes plan) (later
     outcome = outcome_of kept.session (Received m)
 
     by_moves : MovesBy (ends_at plan me.0 peer.0) kept (outcome_of kept.session (Received m))
-    by_moves = received_moves (ends_at plan me.0 peer.0) other_end kept ((later.edges peer.0).peering me.0) hears.meets.messages messages m (talk_at m messages kept work at hears) why
+    by_moves = received_moves (ends_at plan me.0 peer.0) other_end kept ((later.edges peer.0).peering me.0) hears.meets.messages messages m (talk_at plan later me peer (m ∷ messages) kept work at hears) why
 
     replied : TellsWorth plan checked others me peer (outcome_worth plan checked others me peer (outcome_of kept.session (Received m))) work.effects event.effects
     replied = event_worth plan checked others me peer (Received m) kept work at (hears_standing plan later me peer (m ∷ messages) work hears peer.0 kept at) by_moves.plain
@@ -383,7 +373,7 @@ module _ (plan : Plan) (checked : IsChecked plan) (types : HasTypes plan) (later
         up_now down risen =
             sum (near_worth ((mends plan taken_all event).edge.peering peer.0)) (phase_worth now.session.phase rise) (lone_worth far fall) (paid replied.tells.told) (paid mending_tells.told)
             (paid (replied.tells.told ++ mending_tells.told)) rise (phase_worth kept.session.phase rise) (message_worth plan others peer.0 me.0 m) near_on (up_worth now.session.phase risen) both_paid few
-            (mending_pays plan checked others me (may_rise peer.0) (rise_like peer.0) event (next_me plan checked me peer (Received m) work mended)
+            (mending_pays plan checked others me (may_rise plan me peer.0) (rise_like plan me peer.0) event (next_me plan checked me peer (Received m) work mended)
             (rise_puts plan checked me peer (Received m) work mended now there (down_before down)) mending_tells)
             (phase_down kept.session.phase rise down) some
           where

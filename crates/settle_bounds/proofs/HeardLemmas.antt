@@ -38,10 +38,12 @@ use Rattle.flight_laws.proofs.MendingLemmas.{mends_keep}
 use Rattle.flight_laws.proofs.SaidLemmas.{IsReady, all_octets, ready}
 use Rattle.flight_laws.proofs.SteadyLemmas.{steady_rows}
 use Rattle.flight_laws.proofs.WorksLemmas.{works_steady}
+use Rattle.spelling_laws.proofs.PutLemmas.{changed_effects}
+use Rattle.spelling_laws.proofs.SessionLemmas.{moved_stands}
+use Rattle.spelling_laws.proofs.WorkLemmas.{works_standing}
 use Rattle.rest_laws.proofs.ClearLemmas.{put_mended}
 use Rattle.rest_laws.proofs.DeliverLemmas.{waits_put}
-use Rattle.rest_laws.proofs.PutLemmas.{changed_effects}
-use Rattle.quiet_laws.proofs.ToldLemmas.{AreTold, MovesOn, Put, TellsMore, Telling, Told, moved_stands, moves_not, moves_then, telling_steady, tells_not, told_joined, told_messages, works_standing}
+use Rattle.quiet_laws.proofs.ToldLemmas.{AreTold, MovesOn, Put, TellsMore, Telling, Told, moves_not, moves_then, telling_steady, tells_not, told_joined, told_messages}
 use Rattle.settle_bounds.specs.Bound.{messages_worth}
 use Rattle.settle_bounds.specs.Worth.{message_worth}
 use Rattle.settle_bounds.proofs.FallLemmas.{EndedBoth, Facts, Falls, Pays, SenderFalls, acts_pays, base, end_on, MovePays, event_pays, facts_at, light_at, mended_paid, near_worth, paid, ruled_messages, sender_falls, there_is, weight_left}

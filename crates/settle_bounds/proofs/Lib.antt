@@ -1,3 +1,4 @@
+pub mod ChosenLemmas
 pub mod EventLemmas
 pub mod FallLemmas
 pub mod HeardLemmas

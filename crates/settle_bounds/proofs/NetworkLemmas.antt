@@ -7,23 +7,20 @@ use Rattle.net_base.specs.declared.plan.Plan.{Plan}
 use Rattle.net_base.specs.declared.plan.places.EdgeId.{EdgeId}
 use Rattle.net_base.specs.plan.Accepted.{IsChecked}
 use Rattle.ldp_grammar.specs.declared.message.Message.{Message}
-use Rattle.ldp_grammar.specs.Written.{written}
 use Rattle.session_core.specs.declared.peers.Peers.{Peers}
-use Rattle.pw_messages.specs.Sender.{platform_of}
-use Rattle.edge_model.specs.declared.effect.Effect.{Effect}
-use Rattle.edge_model.specs.declared.effect.Effect.TheVariants as effect
 use Rattle.edge_model.specs.State.{EdgeState, Peering, is_there}
 use Rattle.edge_model.specs.Work.{Work}
 use Rattle.network_model.specs.Absorb.{absorb}
 use Rattle.network_model.specs.State.{NetworkState, held_by, stands, with_edge}
 use Rattle.flight_laws.specs.Ends.{WorksOn, ends_at}
 use Rattle.flight_laws.specs.Meeting.{closes, said_to}
-use Rattle.flight_laws.specs.Messages.{AreSaid, IsSaidAcross, octets_of_all}
+use Rattle.flight_laws.specs.Messages.{AreSaid, octets_of_all}
 use Rattle.flight_laws.specs.Pair.{AreFit}
 use Rattle.flight_laws.proofs.PipeLemmas.{all_apart, all_edges, all_from, all_to}
 use Rattle.flight_laws.proofs.ReadyLemmas.{all_ready, same_messages}
 use Rattle.flight_laws.proofs.SaidLemmas.{all_joined}
 use Rattle.flight_laws.proofs.SettleLemmas.{edge_else, edge_pipes, edge_there}
+use Rattle.quiet_laws.proofs.NetworkLemmas.{are_said, said_are, to_of}
 use Rattle.quiet_laws.specs.Measure.{AreOnWays, sum_below}
 use Rattle.quiet_laws.proofs.SumLemmas.{at_pair, at_place, grid, grids_less, grids_two, pair_least, pair_most, point_most, row_most, sums_two}
 use Rattle.quiet_laws.proofs.ToldLemmas.{AreTold, MovesOn, Put}
@@ -35,50 +32,9 @@ use Rattle.settle_bounds.proofs.WorthLemmas.{paid}
 
 -- ---- what was told to one neighbour
 
-abbrev to_of : ℕ → List Put → List Message
-to_of place [] = []
-to_of place (p ∷ ps) = cond (nat_eq place p.to) (p.message ∷ to_of place ps) (to_of place ps)
-
 module _ (plan : Plan) (me : ℕ) (place : ℕ) where
   abbrev own : Peers
   own = ends_at plan me place
-
-  said_are : (es : List Effect) (ps : List Put) → AreTold plan me es ps → said_to place es ≡ octets_of_all own.me (to_of place ps)
-  said_are [] [] are = refl
-  said_are [] (p ∷ ps) are = absurd are
-  said_are (effect.Said peer [] ∷ es) ps are = by (nat_eq place peer.0) (said_are es ps are) where
-    by : (b : Bool) → said_to place es ≡ octets_of_all own.me (to_of place ps) → cond b ([] ++ said_to place es) (said_to place es) ≡ octets_of_all own.me (to_of place ps)
-    by true rest = rest
-    by false rest = rest
-  said_are (effect.Said peer (o ∷ os) ∷ es) [] are = absurd are
-  said_are (effect.Said peer (o ∷ os) ∷ es) (p ∷ ps) are = by (nat_eq place p.to) refl (said_are es ps are.1) where
-    by : (b : Bool) → nat_eq place p.to ≡ b → said_to place es ≡ octets_of_all own.me (to_of place ps)
-        → cond (nat_eq place peer.0) ((o ∷ os) ++ said_to place es) (said_to place es) ≡ octets_of_all own.me (cond (nat_eq place p.to) (p.message ∷ to_of place ps) (to_of place ps))
-    by b is rest =
-        ap (λ (k : ℕ). cond (nat_eq place k) ((o ∷ os) ++ said_to place es) (said_to place es)) (sym are.0.to) ∙ here b is
-      where
-        here : (b : Bool) → nat_eq place p.to ≡ b → cond (nat_eq place p.to) ((o ∷ os) ++ said_to place es) (said_to place es)
-            ≡ octets_of_all own.me (cond (nat_eq place p.to) (p.message ∷ to_of place ps) (to_of place ps))
-        here true is =
-            ap (λ (c : Bool). cond c ((o ∷ os) ++ said_to place es) (said_to place es)) is
-            ∙ (ap (λ (l : List ℕ). l ++ said_to place es) (are.0.spelled ∙ ap (λ (k : ℕ). written p.message (platform_of (ends_at plan me k).me)) (sym (eqb-true place p.to is)))
-            ∙ (ap (λ (l : List ℕ). written p.message (platform_of own.me) ++ l) rest
-            ∙ sym (ap (λ (c : Bool). octets_of_all own.me (cond c (p.message ∷ to_of place ps) (to_of place ps))) is)))
-        here false is = ap (λ (c : Bool). cond c ((o ∷ os) ++ said_to place es) (said_to place es)) is
-            ∙ (rest ∙ sym (ap (λ (c : Bool). octets_of_all own.me (cond c (p.message ∷ to_of place ps) (to_of place ps))) is))
-  said_are (e ∷ es) ps are = said_are es ps are
-
-  are_said : (es : List Effect) (ps : List Put) → AreTold plan me es ps → AreSaid own (to_of place ps)
-  are_said [] [] are = tt
-  are_said [] (p ∷ ps) are = absurd are
-  are_said (effect.Said peer [] ∷ es) ps are = are_said es ps are
-  are_said (effect.Said peer (o ∷ os) ∷ es) [] are = absurd are
-  are_said (effect.Said peer (o ∷ os) ∷ es) (p ∷ ps) are = by (nat_eq place p.to) refl (are_said es ps are.1) where
-    by : (b : Bool) → nat_eq place p.to ≡ b → AreSaid own (to_of place ps) → AreSaid own (cond (nat_eq place p.to) (p.message ∷ to_of place ps) (to_of place ps))
-    by true is rest = subst (λ (c : Bool). AreSaid own (cond c (p.message ∷ to_of place ps) (to_of place ps))) (sym is)
-        (subst (λ (k : ℕ). IsSaidAcross (ends_at plan me k) p.message) (sym (eqb-true place p.to is)) are.0.said, rest)
-    by false is rest = subst (λ (c : Bool). AreSaid own (cond c (p.message ∷ to_of place ps) (to_of place ps))) (sym is) rest
-  are_said (e ∷ es) ps are = are_said es ps are
 
   -- what it is worth
   module _ (checked : IsChecked plan) (edges : ℕ → EdgeState) where

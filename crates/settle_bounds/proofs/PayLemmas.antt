@@ -42,37 +42,41 @@ use Rattle.flight_laws.proofs.MendedRunLemmas.{IsMendedAt}
 use Rattle.flight_laws.proofs.PassingLemmas.{wire_end_is}
 use Rattle.flight_laws.proofs.PlaceLemmas.{IsEndOf, find_holds, places_are}
 use Rattle.flight_laws.proofs.WorksLemmas.{changed_edge}
+use Rattle.spelling_laws.proofs.PutLemmas.{changed_effects}
 use Rattle.rest_laws.specs.Levels.{Saying, Releases, Clears}
-use Rattle.rest_laws.proofs.BindLemmas.{HoldsOther}
 use Rattle.rest_laws.proofs.ClearLemmas.{IsClearing, found_clears, ports_clear, put_mended}
 use Rattle.rest_laws.proofs.DueLemmas.{PutsMore}
-use Rattle.rest_laws.proofs.PutLemmas.{changed_effects, mending_puts_due, puts_not, puts_then}
+use Rattle.rest_laws.proofs.PutLemmas.{puts_not, puts_then}
 use Rattle.rest_laws.proofs.StillLemmas.{mended_puts_none}
 use Rattle.rest_laws.proofs.TakeLemmas.{holds_other, pw_named}
-use Rattle.settle_bounds.specs.Worth.{clear_cost, found_cost, may_follow, mend_cost, port_cost, ports_cost}
-use Rattle.settle_bounds.proofs.NearLemmas.{due_at, mapping_near, release_near, withdraw_near}
+use Rattle.settle_bounds.specs.Worth.{clear_cost, found_cost, may_pass, may_release, mend_cost, port_cost, ports_cost}
+use Rattle.settle_bounds.proofs.NearLemmas.{changed_near, release_near, withdraw_near}
 use Rattle.settle_bounds.proofs.WalkLemmas.{Costs, Walks, changed_walk, mends_walk, piece_walk, walks_none, walks_not, walks_then, walks_wider}
 
 -- ---- one kind of message at a time
 
--- what an edge puts on a message: at its ends at most so much, and labels at the ends of one wire
-pub record Follows (plan : Plan) (me : EdgeId) (wire : ℕ) (old new : List Effect) (most : Costs → ℕ) : Type 0 where
+-- what an edge puts on a message: at its ends at most so much, and where it may
+pub record Follows (plan : Plan) (me : EdgeId) (may : EndPlace → Saying → Bool) (old new : List Effect) (most : Costs → ℕ) : Type 0 where
   pub walks : Walks plan me old new most
-  pub near : PutsMore plan me (may_follow wire) old new
+  pub near : PutsMore plan me may old new
 
 module _ (plan : Plan) (checked : IsChecked plan) (me : EdgeId) (q : EndPlace) (q_is : IsEndOf plan me q) (work : Work) (mended : IsMendedAt plan me.0 work.edge) where
-  abbrev Goes : (Costs → ℕ) → Work → Type 0
-  Goes most next = Follows plan me q.wire.0 work.effects (mends plan taken_all next).effects most
+  abbrev passes_it : EndPlace → Saying → Bool
+  passes_it = may_pass plan me q.wire.0 q.peer.0 q_is.row
+
+  abbrev Goes : (EndPlace → Saying → Bool) → (Costs → ℕ) → Work → Type 0
+  Goes may most next = Follows plan me may work.effects (mends plan taken_all next).effects most
 
   -- a change says nothing, and the edge mends
   change_walk : (change : EdgeState → EdgeState) → (changes change work).edge.me ≡ me → Walks plan me work.effects (mends plan taken_all (changes change work)).effects (mend_cost plan me)
   change_walk change at = subst (λ (es : List Effect). Walks plan me es (mends plan taken_all (changes change work)).effects (mend_cost plan me)) (changed_effects change work) (mends_walk plan me (changes change work) at)
 
   pub maps : (fec : PwFec) (label : ℕ) (status : Option PwStatus) (points : List Point) → end_of_fec plan work.edge q.peer fec ≡ Some q → takes_content plan work.edge.me q (binding_in fec label status points).told ≡ true
-      → Goes (mend_cost plan me) (hears_mapping plan taken_all q.peer fec label status points work)
+      → Goes passes_it (mend_cost plan me) (hears_mapping plan taken_all q.peer fec label status points work)
   maps fec label status points named takes = record {
     walks = subst (λ (w : Work). Walks plan me work.effects (mends plan taken_all w).effects (mend_cost plan me)) (sym heard_is) (change_walk change bound_me);
-    near = mapping_near plan checked me q q_is fec label status points work mended named takes;
+    near = subst (λ (w : Work). PutsMore plan me passes_it work.effects (mends plan taken_all w).effects) (sym heard_is)
+        (changed_near plan checked me q q_is (bound binding (end_at work.edge q)) change work mended refl refl);
   }
     where
       binding : Binding
@@ -95,7 +99,7 @@ module _ (plan : Plan) (checked : IsChecked plan) (me : EdgeId) (q : EndPlace) (
   named_edge fec one all named = changed_edge (with_named plan q.peer fec one all fec.pw_id) work ∙ named_alone plan q.peer fec q one all work.edge named
 
   pub withdraws : (fec : PwFec) (label : Option ℕ) → end_of_fec plan work.edge q.peer fec ≡ Some q
-      → Goes (λ cost. cost q Releases + mend_cost plan me cost) (hears_withdraw plan taken_all q.peer fec label work)
+      → Goes passes_it (λ cost. cost q Releases + mend_cost plan me cost) (hears_withdraw plan taken_all q.peer fec label work)
   withdraws fec label named = record {
     walks = walks_then plan me work.effects next.effects (mends plan taken_all next).effects (λ cost. cost q Releases) (mend_cost plan me)
         (changed_walk plan me change q (release fec label) Releases work q_is (λ id. refl) (λ id. pw_named plan work.edge.me q.peer q fec.pw_id named)) (mends_walk plan me next next_me);
@@ -119,7 +123,8 @@ module _ (plan : Plan) (checked : IsChecked plan) (me : EdgeId) (q : EndPlace) (
   unfolding Rattle.edge_model.specs.State.with_kept with_end
   releasing_me label edge = refl
 
-  pub releases : (fec : PwFec) (label : Option ℕ) → end_of_fec plan work.edge q.peer fec ≡ Some q → Goes (mend_cost plan me) (hears_release plan q.peer fec label work)
+  pub releases : (fec : PwFec) (label : Option ℕ) → end_of_fec plan work.edge q.peer fec ≡ Some q
+      → Goes (may_release plan me q.wire.0 q.peer.0 q_is.row) (mend_cost plan me) (hears_release plan q.peer fec label work)
   releases fec label named = record {
     walks = change_walk change (ap (λ (e : EdgeState). e.me) (changed_edge change work ∙ ap (λ (o : Option EndPlace). with_released label o work.edge) named) ∙ (releasing_me label work.edge ∙ mended.me));
     near = release_near plan checked me q q_is fec label work mended named;
@@ -129,38 +134,33 @@ module _ (plan : Plan) (checked : IsChecked plan) (me : EdgeId) (q : EndPlace) (
       change edge = with_released label (end_of_fec plan edge q.peer fec) edge
 
   -- nothing changes
-  none : (most : Costs → ℕ) → Goes most work
+  none : (most : Costs → ℕ) → Goes passes_it most work
   none most = record {
     walks = walks_none plan me work.effects (mends plan taken_all work).effects most (mended_puts_none plan me (λ p s. false) work mended);
-    near = mended_puts_none plan me (may_follow q.wire.0) work mended;
+    near = mended_puts_none plan me passes_it work mended;
   }
 
   states_it : (fec : PwFec) (status : PwStatus) → end_of_fec plan work.edge q.peer fec ≡ Some q
-      → Goes (mend_cost plan me) (changes (with_named plan q.peer fec (stated status) (group_stated fec.group status) fec.pw_id) work)
+      → Goes passes_it (mend_cost plan me) (changes (with_named plan q.peer fec (stated status) (group_stated fec.group status) fec.pw_id) work)
   states_it fec status named = record {
-    walks = change_walk change (other.me ∙ mended.me);
-    near = subst (λ (es : List Effect). PutsMore plan me (may_follow q.wire.0) es (mends plan taken_all next).effects) (changed_effects change work)
-        (mending_puts_due plan me (may_follow q.wire.0) next (other.me ∙ mended.me)
-        (due_at plan checked me q q_is (stated status (end_at work.edge q)) work.edge next.edge mended refl other.me other.wires other.bits other.ups other.labels (ap (λ (e : EdgeState). e.ends) edge_is))
-        (λ p here. refl) (λ p here. refl));
+    walks = change_walk change (ap (λ (e : EdgeState). e.me) (changed_edge change work ∙ edge_is) ∙ ((holds_other q end work.edge refl).me ∙ mended.me));
+    near = changed_near plan checked me q q_is end change work mended refl edge_is;
   }
     where
+      end : Rattle.pw_signalling.specs.End.EndState
+      end = stated status (end_at work.edge q)
+
       change : EdgeState → EdgeState
       change = with_named plan q.peer fec (stated status) (group_stated fec.group status) fec.pw_id
 
-      next : Work
-      next = changes change work
+      edge_is : change work.edge ≡ with_end q end work.edge
+      edge_is = named_alone plan q.peer fec q (stated status) (group_stated fec.group status) work.edge named
 
-      edge_is : next.edge ≡ with_end q (stated status (end_at work.edge q)) work.edge
-      edge_is = named_edge fec (stated status) (group_stated fec.group status) named
-
-      other : HoldsOther q work.edge next.edge
-      other = subst (HoldsOther q work.edge) (sym edge_is) (holds_other q (stated status (end_at work.edge q)) work.edge refl)
-
-  pub states : (code : StatusCode) (status : Option PwStatus) (fec : PwFec) → end_of_fec plan work.edge q.peer fec ≡ Some q → Goes (mend_cost plan me) (hears_status plan q.peer code status (Some fec) work)
+  pub states : (code : StatusCode) (status : Option PwStatus) (fec : PwFec) → end_of_fec plan work.edge q.peer fec ≡ Some q
+      → Goes passes_it (mend_cost plan me) (hears_status plan q.peer code status (Some fec) work)
   states code None fec named = none (mend_cost plan me)
   states code (Some status) fec named = by (nat_eq code.code pw_status_code) where
-    by : (b : Bool) → Goes (mend_cost plan me) (cond b (changes (with_named plan q.peer fec (stated status) (group_stated fec.group status) fec.pw_id) work) work)
+    by : (b : Bool) → Goes passes_it (mend_cost plan me) (cond b (changes (with_named plan q.peer fec (stated status) (group_stated fec.group status) fec.pw_id) work) work)
     by true = states_it fec status named
     by false = none (mend_cost plan me)
 
@@ -168,7 +168,7 @@ module _ (plan : Plan) (checked : IsChecked plan) (me : EdgeId) (q : EndPlace) (
 
   module _ (addresses : List Mac) (few : length (pieces_of addresses) ≤ 1) where
     abbrev may : EndPlace → Saying → Bool
-    may = may_follow q.wire.0
+    may place saying = true
 
     pieces_walk : (place : EndPlace) → IsEndOf plan me place → (ps : List (List Mac)) → length ps ≤ 1 → (w : Work)
         → Walks plan me w.effects (tells_pieces taken_all place ps w).effects (λ cost. cost place Clears)
@@ -312,8 +312,8 @@ module _ (plan : Plan) (checked : IsChecked plan) (me : EdgeId) (q : EndPlace) (
         found_clears plan me may work mended.me addresses beyond (λ place is. (ends_there (mate_on q_is.row.path me.0 q.peer.0) place is, refl)) work begins,
       )
 
-    pub clears_it : (fec : PwFec) → end_of_fec plan work.edge q.peer fec ≡ Some q → Goes (λ cost. clear_cost plan me cost q q_is.row) (hears_mac_withdraw plan taken_all q.peer (Some fec) (Some addresses) work)
-    clears_it fec named = subst (Goes (λ cost. clear_cost plan me cost q q_is.row)) (sym (ap (λ (o : Option EndPlace). clears_by plan taken_all addresses o work) named)) (record {
+    pub clears_it : (fec : PwFec) → end_of_fec plan work.edge q.peer fec ≡ Some q → Goes may (λ cost. clear_cost plan me cost q q_is.row) (hears_mac_withdraw plan taken_all q.peer (Some fec) (Some addresses) work)
+    clears_it fec named = subst (Goes may (λ cost. clear_cost plan me cost q q_is.row)) (sym (ap (λ (o : Option EndPlace). clears_by plan taken_all addresses o work) named)) (record {
       walks = walks_wider plan me work.effects (mends plan taken_all heard).effects (λ cost. clear_cost plan me cost q q_is.row + 0) (λ cost. clear_cost plan me cost q q_is.row) (λ cost. no_more (clear_cost plan me cost q q_is.row))
           (walks_then plan me work.effects heard.effects (mends plan taken_all heard).effects (λ cost. clear_cost plan me cost q q_is.row) (λ cost. 0) cleared.0
           (walks_none plan me heard.effects (mends plan taken_all heard).effects (λ cost. 0) (mended_puts_none plan me (λ p s. false) heard mended_still)));

@@ -1,5 +1,5 @@
 -- What a session replies is worth one for each message: two at most.
-use Rattle.std.proofs.Common.{◌≡◌, ◌≤◌, ◌<◌, ◌+◌, ◌^◌, ◌++◌, ◌∙◌, ℕ, suc, Bool, true, false, cond, List, [], ◌∷◌, Option, Some, None, length, refl, sym, ap, subst, append_assoc, arith, zero-add}
+use Rattle.std.proofs.Common.{◌≡◌, ◌≤◌, ◌+◌, ◌++◌, ◌∙◌, ℕ, suc, Bool, true, false, cond, List, [], ◌∷◌, Option, Some, None, length, refl, sym, ap, subst, append_assoc, arith, zero-add}
 use Rattle.std.specs.List.{AllByRecursion}
 use Rattle.net_base.specs.declared.plan.Plan.{Plan}
 use Rattle.net_base.specs.declared.plan.places.EdgeId.{EdgeId}
@@ -19,15 +19,15 @@ use Rattle.pw_messages.specs.Sender.{platform_of}
 use Rattle.pw_messages.proofs.CommonLemmas.{following_small}
 use Rattle.edge_model.specs.declared.effect.Effect.{Effect}
 use Rattle.edge_model.specs.declared.effect.Effect.TheVariants as effect
-use Rattle.edge_model.specs.Put.{Spoken, having_spoken, octets_of, put_octets, put_replies, put_reply_to, puts_on, with_spoken}
-use Rattle.edge_model.specs.Session.{clears_ends, comes_of, ends, happens, happens_to, happens_with_ends, is_same_phase, losing_ends, tells_change, with_session}
-use Rattle.edge_model.specs.State.{EdgeState, Peering, has_end, with_ends_beside, with_kept, with_peering}
-use Rattle.edge_model.specs.Work.{Work, changes, gives, puts}
+use Rattle.edge_model.specs.Put.{Spoken, having_spoken, octets_of, put_replies}
+use Rattle.edge_model.specs.Session.{comes_of, ends, happens, happens_to, happens_with_ends, is_same_phase, tells_change, with_session}
+use Rattle.edge_model.specs.State.{EdgeState, Peering, with_peering}
+use Rattle.edge_model.specs.Work.{Work, changes, gives}
 use Rattle.network_model.specs.Absorb.{taken_all}
 use Rattle.flight_laws.specs.Ends.{ends_at}
-use Rattle.flight_laws.specs.Messages.{IsSaidAcross}
-use Rattle.quiet_laws.proofs.ToldLemmas.{AreTold, IsPlainOutcome, Put, Speaks, TellsMore, moved_stands, told_joined}
-use Rattle.rest_laws.proofs.PutLemmas.{changed_effects, put_effects}
+use Rattle.spelling_laws.proofs.PutLemmas.{changed_effects, put_effects, Speaks, first_put, given_effects, put_first, put_stands}
+use Rattle.spelling_laws.proofs.SessionLemmas.{moved_stands, cleared_effects}
+use Rattle.quiet_laws.proofs.ToldLemmas.{AreTold, IsPlainOutcome, Put, TellsMore, told_joined, IsPlain, reply_said}
 use Rattle.settle_bounds.specs.Worth.{message_worth}
 use Rattle.settle_bounds.proofs.WorthLemmas.{paid}
 
@@ -77,34 +77,15 @@ module _ (plan : Plan) (checked : IsChecked plan) (edges : ℕ → EdgeState) (m
     both : (a b c : ℕ) → a ≤ b → b ≤ c → a ≤ c
     both a b c one other = omega (arith, one, other)
 
-  given_effects : (e : Effect) (work : Work) → (gives e work).effects ≡ work.effects ++ e ∷ []
-  unfolding gives
-  given_effects e work = refl
-
   silent : (es : List Effect) (e : Effect) → AreTold plan me.0 (e ∷ []) [] → TellsWorth 0 es (es ++ e ∷ [])
   silent es e none = record { tells = record { more = e ∷ []; joined = refl; told = []; are = none }; worth = omega arith }
 
   -- ---- replies
 
-  -- a reply of a session that goes on
-  abbrev IsPlain : Reply → Type 0
-  IsPlain reply.Init = Unit {0}
-  IsPlain reply.KeepAlive = Unit {0}
-  IsPlain (reply.Notice status) = ⊥
-
-  reply_said : (ends : Peers) (r : Reply) (id : ℕ) → IsPlain r → id < 2 ^ 32 → IsSaidAcross ends (message_of r id ends)
-  reply_said ends reply.Init id plain small = (small, refl)
-  reply_said ends reply.KeepAlive id plain small = small
-  reply_said ends (reply.Notice status) id plain small = absurd plain
-
   reply_worth : (r : Reply) (id : ℕ) (ends : Peers) → IsPlain r → message_worth plan edges me.0 peer.0 (message_of r id ends) + 0 ≤ 1
   reply_worth reply.Init id ends plain = omega arith
   reply_worth reply.KeepAlive id ends plain = omega arith
   reply_worth (reply.Notice status) id ends plain = absurd plain
-
-  put_stands : (bytes : List ℕ) (kept : Peering) (work : Work) → work.edge.peering peer.0 ≡ Some kept → (put_octets peer bytes true work).work.edge.peering peer.0 ≡ Some (having_spoken kept)
-  unfolding changes gives puts with_peering with_spoken
-  put_stands bytes kept work at = rw (Rattle.net_values.proofs.NumberLemmas.same_number peer.0, at) refl
 
   -- replies are put
   record RepliesPut (rs : List Reply) (work : Work) (put : Spoken) : Type 0 where
@@ -114,13 +95,7 @@ module _ (plan : Plan) (checked : IsChecked plan) (edges : ℕ → EdgeState) (m
   one_more_than : (n : ℕ) → 1 + n ≡ suc n
   one_more_than n = omega arith
 
-  abbrev first_put : Reply → Peering → Work → Spoken
-  first_put r kept work = put_octets peer (octets_of kept r) true work
-
-  put_first : (r : Reply) (rs : List Reply) (kept : Peering) (work : Work) → work.edge.peering peer.0 ≡ Some kept → put_replies taken_all peer (r ∷ rs) work ≡ put_replies taken_all peer rs (first_put r kept work).work
-  put_first r rs kept work at = ap (λ (o : Option Peering). puts_on (put_replies taken_all peer rs) (put_reply_to taken_all peer r o work).failed (put_reply_to taken_all peer r o work).work) at
-
-  one_put : (r : Reply) (kept : Peering) (work : Work) → Speaks own kept → IsPlain r → TellsWorth 1 work.effects (first_put r kept work).work.effects
+  one_put : (r : Reply) (kept : Peering) (work : Work) → Speaks own kept → IsPlain r → TellsWorth 1 work.effects (first_put peer r kept work).work.effects
   one_put r kept work speaks plain = subst (TellsWorth 1 work.effects) (sym (put_effects peer (octets_of kept r) work))
       (subst (λ (bytes : List ℕ). TellsWorth 1 work.effects (work.effects ++ effect.Said peer bytes ∷ [])) (sym spelled) (record {
         tells = record {
@@ -138,13 +113,13 @@ module _ (plan : Plan) (checked : IsChecked plan) (edges : ℕ → EdgeState) (m
   replies_put : (rs : List Reply) (kept : Peering) (work : Work) → work.edge.peering peer.0 ≡ Some kept → Speaks own kept → AllByRecursion IsPlain rs → RepliesPut rs work (put_replies taken_all peer rs work)
   replies_put [] kept work at speaks plain = record { taken = refl; tells = worth_not work.effects 0 }
   replies_put (r ∷ rs) kept work at speaks plain =
-      let rest : RepliesPut rs (first_put r kept work).work (put_replies taken_all peer rs (first_put r kept work).work) =
-      replies_put rs (having_spoken kept) (first_put r kept work).work (put_stands (octets_of kept r) kept work at)
+      let rest : RepliesPut rs (first_put peer r kept work).work (put_replies taken_all peer rs (first_put peer r kept work).work) =
+      replies_put rs (having_spoken kept) (first_put peer r kept work).work (put_stands peer (octets_of kept r) kept work at)
       (record { peers = speaks.peers; fit = speaks.fit; low = following_small kept.next_id speaks.low }) plain.1 in
-      subst (RepliesPut (r ∷ rs) work) (sym (put_first r rs kept work at)) (record {
+      subst (RepliesPut (r ∷ rs) work) (sym (put_first peer r rs kept work at)) (record {
         taken = rest.taken;
-        tells = subst (λ (n : ℕ). TellsWorth n work.effects (put_replies taken_all peer rs (first_put r kept work).work).work.effects) (one_more_than (length rs))
-            (worth_then work.effects (first_put r kept work).work.effects (put_replies taken_all peer rs (first_put r kept work).work).work.effects 1 (length rs) (one_put r kept work speaks plain.0) rest.tells);
+        tells = subst (λ (n : ℕ). TellsWorth n work.effects (put_replies taken_all peer rs (first_put peer r kept work).work).work.effects) (one_more_than (length rs))
+            (worth_then work.effects (first_put peer r kept work).work.effects (put_replies taken_all peer rs (first_put peer r kept work).work).work.effects 1 (length rs) (one_put r kept work speaks plain.0) rest.tells);
       })
 
   -- ---- an event
@@ -194,16 +169,9 @@ module _ (plan : Plan) (checked : IsChecked plan) (edges : ℕ → EdgeState) (m
   comes_worth kept (Ends why replies) work at speaks plain =
       subst (λ (rs : List Reply). TellsWorth 0 work.effects (ends peer why (put_replies taken_all peer rs work).work).effects) (sym plain) (ends_worth why work)
 
-  cleared_effects : (work : Work) → (clears_ends peer work).effects ≡ work.effects
-  unfolding changes with_ends_beside with_kept
-  cleared_effects work = by (has_end work.edge peer) where
-    by : (b : Bool) → (cond b work (changes (losing_ends peer) work)).effects ≡ work.effects
-    by true = refl
-    by false = refl
-
   pub event_worth : (event : SessionEvent) (kept : Peering) (work : Work) → work.edge.peering peer.0 ≡ Some kept → Speaks own kept → IsPlainOutcome own (outcome_of kept.session event)
       → TellsWorth (outcome_worth (outcome_of kept.session event)) work.effects (happens_with_ends taken_all peer event work).effects
   event_worth event kept work at speaks plain =
       subst (TellsWorth (outcome_worth (outcome_of kept.session event)) work.effects)
-      (sym (cleared_effects (happens taken_all peer event work) ∙ ap (λ (o : Option Peering). (happens_to taken_all peer event o work).effects) at))
+      (sym (cleared_effects peer (happens taken_all peer event work) ∙ ap (λ (o : Option Peering). (happens_to taken_all peer event o work).effects) at))
       (comes_worth kept (outcome_of kept.session event) work at speaks plain)

@@ -1,19 +1,17 @@
 -- In every run each next delivery makes the bound fall.
-use Rattle.std.proofs.Common.{◌≡◌, ◌≤◌, ◌<◌, ◌+◌, ◌-◌, ◌++◌, ◌||◌, ◌∙◌, ◌==◌, ◌⊎◌, ℕ, zero, suc, Bool, true, false, cond, not, nat_eq, List, [], ◌∷◌, Option, Some, None, slice_get, length, drop, take, append_assoc, refl, sym, ap, subst, inr, ⊎_elim, arith}
+use Rattle.std.proofs.Common.{◌≡◌, ◌≤◌, ◌<◌, ◌+◌, ◌-◌, ◌++◌, ◌||◌, ◌∙◌, ◌==◌, ◌⊎◌, ℕ, suc, Bool, true, false, cond, not, nat_eq, List, [], ◌∷◌, Option, Some, None, length, drop, take, append_assoc, refl, sym, ap, subst, inr, ⊎_elim, arith}
 use Rattle.std.proofs.lemmas.Bool.Decides.{nat_tests}
 use Rattle.std.proofs.lemmas.List.{length-append, length-drop, take-append-drop}
 use Rattle.net_values.proofs.BoolLemmas.{clash, second_holds}
 use Rattle.net_values.proofs.NumberLemmas.{apart_back}
 use Rattle.net_base.specs.declared.plan.Plan.{Plan}
-use Rattle.net_base.specs.declared.plan.edge_plan.EdgePlan.{EdgePlan}
 use Rattle.net_base.specs.declared.plan.places.EdgeId.{EdgeId}
 use Rattle.net_base.specs.declared.trace.event.Event.{Event}
 use Rattle.net_base.specs.declared.trace.event.Event.TheVariants.{Deliver}
 use Rattle.net_base.specs.declared.trace.state_name.Reason.TheVariants as reason
 use Rattle.ldp_grammar.specs.declared.message.Message.{Message}
 use Rattle.ldp_grammar.specs.Octets.{two}
-use Rattle.ldp_grammar.specs.Written.{message_octets, written}
-use Rattle.session_core.specs.declared.peers.Peers.{Peers}
+use Rattle.ldp_grammar.specs.Written.{written}
 use Rattle.session_core.specs.Phase.{Phase}
 use Rattle.session_core.specs.Phase as phase
 use Rattle.session_core.specs.State.{is_active}
@@ -35,7 +33,7 @@ use Rattle.flight_laws.specs.Across.{IsMappingTaken, TakesAll}
 use Rattle.flight_laws.specs.Ends.{IsOrdered, WorksOn, ends_at}
 use Rattle.flight_laws.specs.Facts.{flight}
 use Rattle.flight_laws.specs.Laws.{AreOnWay, IsRun, network_after}
-use Rattle.flight_laws.specs.Messages.{AreSaid, IsSaidAcross, octets_of_all}
+use Rattle.flight_laws.specs.Messages.{AreSaid, octets_of_all}
 use Rattle.flight_laws.specs.Pair.{AreFit, ArePaired}
 use Rattle.flight_laws.specs.Rules.{AllMessages}
 use Rattle.flight_laws.proofs.AcrossLemmas.{runs_take_mappings}
@@ -56,9 +54,11 @@ use Rattle.flight_laws.proofs.SettleLemmas.{edge_there}
 use Rattle.flight_laws.proofs.SteadyLemmas.{steady_rows}
 use Rattle.flight_laws.proofs.StayLemmas.{deliveries_end_none}
 use Rattle.flight_laws.proofs.WorksLemmas.{works_begin, works_kept, works_steady}
+use Rattle.spelling_laws.proofs.WorkLemmas.{works_standing}
+use Rattle.quiet_laws.proofs.NetworkLemmas.{short_pdu}
 use Rattle.quiet_laws.specs.Measure.{AreOnWays}
-use Rattle.quiet_laws.proofs.RunLemmas.{fits_of, messages_of, ways_of}
-use Rattle.quiet_laws.proofs.ToldLemmas.{IsPlainOutcome, MovesOn, Telling, event_on, moves_not, moves_then, telling_steady, tells_not, works_standing}
+use Rattle.quiet_laws.proofs.RunLemmas.{fits_of, messages_of, ways_of, fit_below}
+use Rattle.quiet_laws.proofs.ToldLemmas.{IsPlainOutcome, MovesOn, Telling, event_on, moves_not, moves_then, telling_steady, tells_not}
 use Rattle.settle_bounds.specs.Bound.{allowed, bound, end_worth, fall_cost, flight_worth, lone_worth, may_fall, messages_worth, phase_worth, rise_cost}
 use Rattle.settle_bounds.specs.Worth.{mend_cost, message_worth}
 use Rattle.settle_bounds.proofs.EventLemmas.{fall_like, fall_puts, mending_pays, next_me}
@@ -69,34 +69,6 @@ use Rattle.settle_bounds.proofs.ReplyLemmas.{TellsWorth, event_worth, worth_then
 use Rattle.settle_bounds.proofs.WorthLemmas.{paid}
 
 -- ---- edges of the plan
-
-place_below : (xs : List EdgePlan) (k : ℕ) (x : EdgePlan) → slice_get xs k ≡ Some x → k < length xs
-place_below [] k x is = absurd (cc (is))
-place_below (y ∷ ys) zero x is = omega arith
-place_below (y ∷ ys) (suc k) x is = more k (length ys) (place_below ys k x is) where
-  more : (a b : ℕ) → a < b → suc a < suc b
-  more a b le = omega (arith, le)
-
-no_address : (n : ℕ) → n ≡ 0 → n ≡ 4 → ⊥
-no_address n none four = omega (arith, none, four)
-
--- an end that fits is one of the plan's
-fit_below : (plan : Plan) (a b : ℕ) → AreFit (ends_at plan a b) → (a < length plan.edges) × (b < length plan.edges)
-fit_below plan a b fit = by (slice_get plan.edges a) refl (slice_get plan.edges b) refl fit where
-  by : (one : Option EdgePlan) → slice_get plan.edges a ≡ one → (other : Option EdgePlan) → slice_get plan.edges b ≡ other → AreFit (Rattle.flight_laws.specs.Ends.ends_between one other)
-      → (a < length plan.edges) × (b < length plan.edges)
-  by None is other is' fit = absurd (no_address 0 refl fit.me.four)
-  by (Some x) is None is' fit = absurd (no_address 0 refl fit.me.four)
-  by (Some x) is (Some y) is' fit = (place_below plan.edges a x is, place_below plan.edges b y is')
-
--- a PDU of a message has at most 260 octets
-short_pdu : (own : Peers) (m : Message) → AreFit own → IsSaidAcross own m → length (written m (platform_of own.me)) ≤ 260
-short_pdu own m fit said =
-    few_octets (length (written m (platform_of own.me))) (length ((own.me.0 ++ two 0) ++ message_octets m)) (length (own.me.0 ++ two 0)) (length own.me.0) (length (message_octets m)) refl
-    (length-append (own.me.0 ++ two 0) (message_octets m)) (length-append own.me.0 (two 0)) fit.me.four (ready own m fit said).short
-  where
-    few_octets : (all back ids four m : ℕ) → all ≡ suc (suc (suc (suc back))) → back ≡ ids + m → ids ≡ four + 2 → four ≡ 4 → 6 + m ≤ 256 → all ≤ 260
-    few_octets all back ids four m is one two three short = omega (arith, is, one, two, three, short)
 
 -- ---- one delivery
 

@@ -12,7 +12,7 @@ use Rattle.edge_model.specs.State.{EdgeState}
 use Rattle.rest_laws.specs.Levels.{Saying, Binds, Withdraws, Releases, States, Clears, bits_of, edges_spoken, hangs, is_higher, label_stage, level, level_at, level_by, pw_id_of, saying_of, way_hangs}
 use Rattle.rest_laws.specs.Rises.{left_above}
 use Rattle.settle_bounds.specs.Bound.{fall_cost, may_fall, may_rise, messages_worth, rise_cost}
-use Rattle.settle_bounds.specs.Worth.{Worths, beside, clear_cost, comes_by, comes_of, follow_cost, gate, may_follow, mend_cost, message_worth, worth, worth_at, worth_by, worth_named}
+use Rattle.settle_bounds.specs.Worth.{Worths, beside, clear_cost, comes_by, comes_of, gate, heard_cost, may_follow, mend_cost, message_worth, worth, worth_at, worth_by, worth_named}
 
 module _ (plan : Plan) (e f : ℕ → EdgeState) (same : (k : ℕ) → (e k).bits ≡ (f k).bits) where
   -- ---- levels
@@ -41,20 +41,15 @@ module _ (plan : Plan) (e f : ℕ → EdgeState) (same : (k : ℕ) → (e k).bit
   -- ---- worths
 
   module _ (one two : Worths) (is : one ≡ two) where
-    follow_same : (me : EdgeId) (wire l m : ℕ) → l ≡ m → follow_cost plan e one me l wire ≡ follow_cost plan f two me m wire
-    follow_same me wire l m levels = λ i p s. gate (is_higher (levels i) (at_same me.0 s p i) && may_follow wire p s) (is i me.0 p.wire.0 p.peer.0 s)
+    heard_same : (me : EdgeId) (place : EndPlace) (row : WirePlan) (s : Saying) → heard_cost plan e one me place row s ≡ heard_cost plan f two me place row s
+    heard_same me place row s = λ i p t. gate (is_higher (level_same place.wire.0 row place.peer.0 me.0 s i) (at_same me.0 t p i) && may_follow plan me place.wire.0 place.peer.0 row s p t) (is i me.0 p.wire.0 p.peer.0 t)
 
     of_same : (me : EdgeId) (place : EndPlace) (row : WirePlan) (s : Saying) → comes_of plan e one me place row s ≡ comes_of plan f two me place row s
-    of_same me place row Binds = ap (mend_cost plan me)
-        (follow_same me place.wire.0 (level e place.wire.0 row place.peer.0 me.0 Binds) (level f place.wire.0 row place.peer.0 me.0 Binds) (level_same place.wire.0 row place.peer.0 me.0 Binds))
-    of_same me place row Withdraws = λ i. is i me.0 place.wire.0 place.peer.0 Releases + mend_cost plan me
-        (follow_same me place.wire.0 (level e place.wire.0 row place.peer.0 me.0 Withdraws) (level f place.wire.0 row place.peer.0 me.0 Withdraws) (level_same place.wire.0 row place.peer.0 me.0 Withdraws) i)
-    of_same me place row Releases = ap (mend_cost plan me)
-        (follow_same me place.wire.0 (level e place.wire.0 row place.peer.0 me.0 Releases) (level f place.wire.0 row place.peer.0 me.0 Releases) (level_same place.wire.0 row place.peer.0 me.0 Releases))
-    of_same me place row States = ap (mend_cost plan me)
-        (follow_same me place.wire.0 (level e place.wire.0 row place.peer.0 me.0 States) (level f place.wire.0 row place.peer.0 me.0 States) (level_same place.wire.0 row place.peer.0 me.0 States))
-    of_same me place row Clears = ap (λ (cost : EndPlace → Saying → ℕ). clear_cost plan me cost place row)
-        (follow_same me place.wire.0 (level e place.wire.0 row place.peer.0 me.0 Clears) (level f place.wire.0 row place.peer.0 me.0 Clears) (level_same place.wire.0 row place.peer.0 me.0 Clears))
+    of_same me place row Binds = ap (mend_cost plan me) (heard_same me place row Binds)
+    of_same me place row Withdraws = λ i. is i me.0 place.wire.0 place.peer.0 Releases + mend_cost plan me (heard_same me place row Withdraws i)
+    of_same me place row Releases = ap (mend_cost plan me) (heard_same me place row Releases)
+    of_same me place row States = ap (mend_cost plan me) (heard_same me place row States)
+    of_same me place row Clears = ap (λ (cost : EndPlace → Saying → ℕ). clear_cost plan me cost place row) (heard_same me place row Clears)
 
     by_same : (me from wire : ℕ) (o : Option WirePlan) (s : Saying) → comes_by plan e one me from wire o s ≡ comes_by plan f two me from wire o s
     by_same me from wire None s = refl
@@ -83,7 +78,7 @@ module _ (plan : Plan) (e f : ℕ → EdgeState) (same : (k : ℕ) → (e k).bit
   messages_same from to (m ∷ ms) = λ i. message_same from to m i + messages_same from to ms i
 
   pub rise_same : (me : EdgeId) (peer : ℕ) → rise_cost plan e me peer ≡ rise_cost plan f me peer
-  rise_same me peer = λ i. mend_cost plan me (λ p s. gate (may_rise peer p s) (place_same me.0 p s i))
+  rise_same me peer = λ i. mend_cost plan me (λ p s. gate (may_rise plan me peer p s) (place_same me.0 p s i))
 
   pub fall_same : (me : EdgeId) (peer : ℕ) → fall_cost plan e me peer ≡ fall_cost plan f me peer
   fall_same me peer = λ i. suc (mend_cost plan me (λ p s. gate (may_fall plan me peer p s) (place_same me.0 p s i)))

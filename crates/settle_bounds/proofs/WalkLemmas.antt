@@ -40,9 +40,10 @@ use Rattle.edge_model.proofs.MendLemmas.{mends_takes, says_nothing, says_taken}
 use Rattle.network_model.specs.Absorb.{taken_all}
 use Rattle.flight_laws.proofs.PlaceLemmas.{IsEndOf, places_are}
 use Rattle.flight_laws.proofs.WorksLemmas.{changed_edge}
+use Rattle.spelling_laws.proofs.PutLemmas.{changed_effects, put_effects}
 use Rattle.rest_laws.specs.Levels.{Saying, Binds, Withdraws, States, Clears, pw_id_of, saying_of}
 use Rattle.rest_laws.proofs.DueLemmas.{PutsMore, PutsWell}
-use Rattle.rest_laws.proofs.PutLemmas.{changed_effects, put_effects, says_puts}
+use Rattle.rest_laws.proofs.PutLemmas.{says_puts}
 use Rattle.rest_laws.proofs.StillLemmas.{downs_put, forgets_put}
 use Rattle.settle_bounds.specs.Worth.{ends_sum, gate, larger, mend_cost, starts_spoke}
 
@@ -103,6 +104,14 @@ pub record Walks (plan : Plan) (me : EdgeId) (old new : List Effect) (most : Cos
 no_more : (es : List Effect) → es ≡ es ++ []
 no_more [] = refl
 no_more (e ∷ es) = ap (λ (l : List Effect). e ∷ l) (no_more es)
+
+-- a spoke of a service that starts at the edge
+pub spoke_row_starts : (me : EdgeId) (service : ServiceId) (o : Option WirePlan) → is_spoke_row service me o ≡ true → starts_spoke me o ≡ true
+spoke_row_starts me service None spoke = spoke
+spoke_row_starts me service (Some row) spoke = part (is_wire_of service row) (not (is_mesh_class row.class)) (is_first me.0 row.path) spoke where
+  part : (a b c : Bool) → (a && b) && c ≡ true → b && c ≡ true
+  part true b c both = both
+  part false b c both = clash both
 
 module _ (plan : Plan) (me : EdgeId) where
   slots_joined : (es more : List Effect) (ss ts : List Slot) → AreSlots plan me es ss → AreSlots plan me more ts → AreSlots plan me (es ++ more) (ss ++ ts)
@@ -334,35 +343,36 @@ module _ (plan : Plan) (me : EdgeId) where
     of None is = absurd (cc (is))
     of (Some k) is = found (slice_get (spoke_places plan me service) k) k refl (ap (λ (l : List EndPlace). option_map (λ (place : EndPlace). place.wire) (slice_get l k)) (sym places_is) ∙ is)
 
-  abbrev Starts : (ℕ → Option WireId) → Type 0
-  Starts was = (service : ServiceId) (wire : WireId) → was service.0 ≡ Some wire → is_spoke_row service me (wire_row plan wire) ≡ true
+  choosing_is : (edge : EdgeState) → (choosing plan edge).chosen ≡ (λ (service : ℕ). choice plan edge (record { 0 = service }))
+  unfolding with_chosen
+  choosing_is edge = refl
 
-  row_starts : (was : ℕ → Option WireId) → Starts was → (wire : WireId) (row : WirePlan) → wire_row plan wire ≡ Some row → is_chosen was wire row ≡ true → starts_spoke me (Some row) ≡ true
-  row_starts was starts wire row is chosen_it = by (was row.service.0) refl chosen_it where
-    part : (a b c : Bool) → (a && b) && c ≡ true → b && c ≡ true
-    part true b c both = both
-    part false b c both = clash both
+  -- which spokes are chosen by an edge
+  abbrev Chose : EdgeState → (ℕ → Option WireId) → Type 0
+  Chose edge was = was ≡ (λ (service : ℕ). choice plan edge (record { 0 = service }))
 
-    by : (o : Option WireId) → was row.service.0 ≡ o → is_chosen_wire wire o ≡ true → starts_spoke me (Some row) ≡ true
-    by None at it = clash it
-    by (Some other) at it =
-        let same : other.0 ≡ wire.0 = eqb-true other.0 wire.0 it in
-        part (is_wire_of row.service row) (not (is_mesh_class row.class)) (is_first me.0 row.path)
-        (ap (is_spoke_row row.service me) (sym is) ∙ (ap (λ (n : ℕ). is_spoke_row row.service me (wire_row plan (record { 0 = n }))) (sym same) ∙ starts row.service other at))
+  pub chosen_row : (edge : EdgeState) → edge.me ≡ me → (was : ℕ → Option WireId) → Chose edge was → (wire : WireId) (row : WirePlan) → wire_row plan wire ≡ Some row → is_chosen was wire row ≡ true
+      → is_spoke_row row.service me (wire_row plan wire) ≡ true
+  chosen_row edge at was was_is wire row is chosen_it = by (was row.service.0) refl chosen_it where
+    by : (o : Option WireId) → was row.service.0 ≡ o → is_chosen_wire wire o ≡ true → is_spoke_row row.service me (wire_row plan wire) ≡ true
+    by None there it = clash it
+    by (Some other) there it =
+        ap (λ (n : ℕ). is_spoke_row row.service me (wire_row plan (record { 0 = n }))) (sym (eqb-true other.0 wire.0 it))
+        ∙ choice_starts edge at row.service other (ap (λ (c : ℕ → Option WireId). c row.service.0) (sym was_is) ∙ there)
 
   abbrev spoke_clears : EndPlace → Costs → ℕ
   spoke_clears place cost = gate (starts_spoke me (wire_row plan place.wire)) (cost place Clears)
 
-  choice_walk : (before was : ℕ → Option WireId) → Starts was → (place : EndPlace) (work : Work) → IsEndOf plan me place → Keeps was work
+  choice_walk : (edge : EdgeState) → edge.me ≡ me → (before was : ℕ → Option WireId) → Chose edge was → (place : EndPlace) (work : Work) → IsEndOf plan me place → Keeps was work
       → Walks plan me work.effects (mends_choice plan taken_all before place work).work.effects (spoke_clears place) × Keeps was (mends_choice plan taken_all before place work).work
-  choice_walk before was starts place work here kept = by (is_new_choice before work.edge.chosen place.wire (wire_row plan place.wire)) refl where
+  choice_walk edge at before was was_is place work here kept = by (is_new_choice before work.edge.chosen place.wire (wire_row plan place.wire)) refl where
     starts_here : is_new_choice before work.edge.chosen place.wire (wire_row plan place.wire) ≡ true → starts_spoke me (wire_row plan place.wire) ≡ true
     starts_here anew =
-        ap (starts_spoke me) here.is
-        ∙ row_starts was starts place.wire here.row here.is
+        spoke_row_starts me here.row.service (wire_row plan place.wire)
+        (chosen_row edge at was was_is place.wire here.row here.is
         (ap (λ (c : ℕ → Option WireId). is_chosen c place.wire here.row) (sym kept)
         ∙ first_holds (is_chosen work.edge.chosen place.wire here.row) (not (is_chosen before place.wire here.row))
-        (ap (is_new_choice before work.edge.chosen place.wire) (sym here.is) ∙ anew))
+        (ap (is_new_choice before work.edge.chosen place.wire) (sym here.is) ∙ anew)))
 
     same : (n : ℕ) (b : Bool) → b ≡ true → n ≤ gate b n
     same n true is = omega arith
@@ -398,10 +408,6 @@ module _ (plan : Plan) (me : EdgeId) where
     where
       one : (a b c x y z t : ℕ) → x + (y + z) ≤ t → (a + x) + ((b + y) + (c + z)) ≤ (a + (b + c)) + t
       one a b c x y z t le = omega (arith, le)
-
-  choosing_is : (edge : EdgeState) → (choosing plan edge).chosen ≡ (λ (service : ℕ). choice plan edge (record { 0 = service }))
-  unfolding with_chosen
-  choosing_is edge = refl
 
   pub mends_walk : (work : Work) → work.edge.me ≡ me → Walks plan me work.effects (mends plan taken_all work).effects (mend_cost plan me)
   mends_walk work at =
@@ -444,11 +450,8 @@ module _ (plan : Plan) (me : EdgeId) where
       was : ℕ → Option WireId
       was = chose.work.edge.chosen
 
-      was_is : was ≡ (λ (service : ℕ). choice plan told.work.edge (record { 0 = service }))
+      was_is : Chose told.work.edge was
       was_is = ap (λ (e : EdgeState). e.chosen) (changed_edge (choosing plan) told.work) ∙ choosing_is told.work.edge
-
-      starts : Starts was
-      starts service wire is = choice_starts told.work.edge ends.1 service wire (ap (λ (c : ℕ → Option WireId). c service.0) (sym was_is) ∙ is)
 
       stated : Walks plan me told.work.effects statuses.work.effects (λ cost. ends_sum (λ p. cost p States) places) × Keeps was statuses.work
       stated =
@@ -456,4 +459,4 @@ module _ (plan : Plan) (me : EdgeId) where
           (subst (λ (es : List Effect). Walks plan me es statuses.work.effects (λ cost. ends_sum (λ p. cost p States) places)) (changed_effects (choosing plan) told.work) all.0, all.1)
 
       chosen_anew : Walks plan me statuses.work.effects moved.work.effects (λ cost. ends_sum (λ p. spoke_clears p cost) places) × Keeps was moved.work
-      chosen_anew = each_walk (mends_choice plan taken_all work.edge.chosen) spoke_clears (Keeps was) (λ place w here kept. choice_walk work.edge.chosen was starts place w here kept) places (places_are plan me) statuses stated.1
+      chosen_anew = each_walk (mends_choice plan taken_all work.edge.chosen) spoke_clears (Keeps was) (λ place w here kept. choice_walk told.work.edge ends.1 work.edge.chosen was was_is place w here kept) places (places_are plan me) statuses stated.1

@@ -35,7 +35,7 @@ use Rattle.rest_laws.specs.Rises.{AreSaidAt, IsSaidAt, left_above}
 use Rattle.rest_laws.proofs.DueLemmas.{IsPutAt, PutsWell}
 use Rattle.quiet_laws.proofs.SpelledLemmas.{same_saying}
 use Rattle.quiet_laws.proofs.ToldLemmas.{AreTold, IsTold, Put}
-use Rattle.settle_bounds.specs.Worth.{Worths, beside, clear_cost, comes_by, comes_of, end_cost, ends_sum, follow_cost, found_cost, gate, larger, may_follow, mend_cost, message_worth, port_cost, ports_cost, starts_spoke, worth, worth_at, worth_by, worth_named}
+use Rattle.settle_bounds.specs.Worth.{Worths, beside, clear_cost, comes_by, comes_of, end_cost, ends_sum, follow_cost, heard_cost, found_cost, gate, larger, may_follow, mend_cost, message_worth, port_cost, ports_cost, starts_spoke, worth, worth_at, worth_by, worth_named}
 use Rattle.settle_bounds.proofs.WalkLemmas.{AreSlots, Costs, IsSlot, Slot, larger_first, larger_second, slots_sum}
 
 -- ---- more costs, more in all
@@ -99,23 +99,21 @@ module _ (plan : Plan) (me : EdgeId) (f g : Costs) (less : (p : EndPlace) (s : S
 
 module _ (plan : Plan) (edges : ℕ → EdgeState) where
   module _ (one two : Worths) (less : (from wire to : ℕ) (s : Saying) → one from wire to s ≤ two from wire to s) where
-    follow_more : (me : EdgeId) (least wire : ℕ) (p : EndPlace) (s : Saying) → follow_cost plan edges one me least wire p s ≤ follow_cost plan edges two me least wire p s
-    follow_more me least wire p s = gate_more (is_above plan edges me.0 least p s && may_follow wire p s) (one me.0 p.wire.0 p.peer.0 s) (two me.0 p.wire.0 p.peer.0 s) (less me.0 p.wire.0 p.peer.0 s)
+    heard_more : (me : EdgeId) (place : EndPlace) (row : WirePlan) (heard : Saying) (p : EndPlace) (s : Saying) → heard_cost plan edges one me place row heard p s ≤ heard_cost plan edges two me place row heard p s
+    heard_more me place row heard p s =
+        gate_more (is_above plan edges me.0 (level edges place.wire.0 row place.peer.0 me.0 heard) p s && may_follow plan me place.wire.0 place.peer.0 row heard p s)
+        (one me.0 p.wire.0 p.peer.0 s) (two me.0 p.wire.0 p.peer.0 s) (less me.0 p.wire.0 p.peer.0 s)
 
-    mending_more : (me : EdgeId) (least wire : ℕ) → mend_cost plan me (follow_cost plan edges one me least wire) ≤ mend_cost plan me (follow_cost plan edges two me least wire)
-    mending_more me least wire = mend_more plan me (follow_cost plan edges one me least wire) (follow_cost plan edges two me least wire) (follow_more me least wire)
+    mending_more : (me : EdgeId) (place : EndPlace) (row : WirePlan) (heard : Saying) → mend_cost plan me (heard_cost plan edges one me place row heard) ≤ mend_cost plan me (heard_cost plan edges two me place row heard)
+    mending_more me place row heard = mend_more plan me (heard_cost plan edges one me place row heard) (heard_cost plan edges two me place row heard) (heard_more me place row heard)
 
     comes_more : (me : EdgeId) (place : EndPlace) (row : WirePlan) (s : Saying) → comes_of plan edges one me place row s ≤ comes_of plan edges two me place row s
-    comes_more me place row Binds = mending_more me (level edges place.wire.0 row place.peer.0 me.0 Binds) place.wire.0
-    comes_more me place row Withdraws = both_most (one me.0 place.wire.0 place.peer.0 Releases)
-        (mend_cost plan me (follow_cost plan edges one me (level edges place.wire.0 row place.peer.0 me.0 Withdraws) place.wire.0)) (two me.0 place.wire.0 place.peer.0 Releases)
-        (mend_cost plan me (follow_cost plan edges two me (level edges place.wire.0 row place.peer.0 me.0 Withdraws) place.wire.0)) (less me.0 place.wire.0 place.peer.0 Releases)
-        (mending_more me (level edges place.wire.0 row place.peer.0 me.0 Withdraws) place.wire.0)
-    comes_more me place row Releases = mending_more me (level edges place.wire.0 row place.peer.0 me.0 Releases) place.wire.0
-    comes_more me place row States = mending_more me (level edges place.wire.0 row place.peer.0 me.0 States) place.wire.0
-    comes_more me place row Clears = clear_more plan me (follow_cost plan edges one me (level edges place.wire.0 row place.peer.0 me.0 Clears) place.wire.0)
-        (follow_cost plan edges two me (level edges place.wire.0 row place.peer.0 me.0 Clears) place.wire.0)
-        (follow_more me (level edges place.wire.0 row place.peer.0 me.0 Clears) place.wire.0) place row
+    comes_more me place row Binds = mending_more me place row Binds
+    comes_more me place row Withdraws = both_most (one me.0 place.wire.0 place.peer.0 Releases) (mend_cost plan me (heard_cost plan edges one me place row Withdraws))
+        (two me.0 place.wire.0 place.peer.0 Releases) (mend_cost plan me (heard_cost plan edges two me place row Withdraws)) (less me.0 place.wire.0 place.peer.0 Releases) (mending_more me place row Withdraws)
+    comes_more me place row Releases = mending_more me place row Releases
+    comes_more me place row States = mending_more me place row States
+    comes_more me place row Clears = clear_more plan me (heard_cost plan edges one me place row Clears) (heard_cost plan edges two me place row Clears) (heard_more me place row Clears) place row
 
     by_more : (me from wire : ℕ) (o : Option WirePlan) (s : Saying) → suc (comes_by plan edges one me from wire o s) ≤ suc (comes_by plan edges two me from wire o s)
     by_more me from wire None s = omega arith
@@ -338,17 +336,17 @@ module _ (plan : Plan) (checked : IsChecked plan) (edges : ℕ → EdgeState) (m
 
   -- ---- what follows a message is worth less deep
 
-  pub follow_least : (deep least wire : ℕ) → left_above least ≡ suc deep → (ss : List Slot) → AllSlots (λ p s. is_above plan edges me.0 least p s ≡ true) ss → AllSlots (λ p s. may_follow wire p s ≡ true) ss
-      → slots_sum (worth_at plan edges me.0) ss ≤ slots_sum (follow_cost plan edges (worth plan edges deep) me least wire) ss
-  follow_least deep least wire is ss above may =
-      slots_less (worth_at plan edges me.0) (follow_cost plan edges (worth plan edges deep) me least wire) ss
-      (slots_both (λ p s. is_above plan edges me.0 least p s ≡ true) (λ p s. may_follow wire p s ≡ true) (λ p s. worth_at plan edges me.0 p s ≤ follow_cost plan edges (worth plan edges deep) me least wire p s) one ss above may)
+  pub follow_least : (deep least : ℕ) (may : EndPlace → Saying → Bool) → left_above least ≡ suc deep → (ss : List Slot) → AllSlots (λ p s. is_above plan edges me.0 least p s ≡ true) ss → AllSlots (λ p s. may p s ≡ true) ss
+      → slots_sum (worth_at plan edges me.0) ss ≤ slots_sum (follow_cost plan edges (worth plan edges deep) me least may) ss
+  follow_least deep least may is ss above allowed =
+      slots_less (worth_at plan edges me.0) (follow_cost plan edges (worth plan edges deep) me least may) ss
+      (slots_both (λ p s. is_above plan edges me.0 least p s ≡ true) (λ p s. may p s ≡ true) (λ p s. worth_at plan edges me.0 p s ≤ follow_cost plan edges (worth plan edges deep) me least may p s) one ss above allowed)
     where
-      one : (p : EndPlace) (s : Saying) → is_above plan edges me.0 least p s ≡ true → may_follow wire p s ≡ true → worth_at plan edges me.0 p s ≤ follow_cost plan edges (worth plan edges deep) me least wire p s
+      one : (p : EndPlace) (s : Saying) → is_above plan edges me.0 least p s ≡ true → may p s ≡ true → worth_at plan edges me.0 p s ≤ follow_cost plan edges (worth plan edges deep) me least may p s
       one p s up near =
           subst (λ (b : Bool). worth_at plan edges me.0 p s ≤ gate b (worth plan edges deep me.0 p.wire.0 p.peer.0 s)) (sym both) (by (level_at plan edges me.0 s p) refl up)
         where
-          both : is_above plan edges me.0 least p s && may_follow wire p s ≡ true
+          both : is_above plan edges me.0 least p s && may p s ≡ true
           both = rw (up, near) refl
 
           less : (a b : ℕ) → nat_lt a b ≡ true → 112 - a ≡ suc deep → 112 - b ≤ deep

@@ -1,6 +1,6 @@
 -- A bound of the deliveries that are still to be made: what is on its way is worth so much, and so are the sessions that are still to come up,
 -- and those of which one end alone stands.
-use Rattle.std.specs.Prelude.{◌≡◌, ◌==◌, ◌+◌, ℕ, suc, Bool, true, false, List, [], ◌∷◌, Option, Some, None, length, if◌then◌else◌}
+use Rattle.std.specs.Prelude.{◌≡◌, ◌==◌, ◌+◌, ◌||◌, ℕ, suc, Bool, false, List, [], ◌∷◌, Option, Some, None, length, if◌then◌else◌}
 use Rattle.net_base.specs.declared.plan.Plan.{Plan}
 use Rattle.net_base.specs.declared.plan.places.EdgeId.{EdgeId}
 use Rattle.net_base.specs.plan.Places.{wire_row}
@@ -11,16 +11,16 @@ use Rattle.edge_model.specs.declared.end_place.EndPlace.{EndPlace}
 use Rattle.edge_model.specs.State.{EdgeState, Peering}
 use Rattle.network_model.specs.State.{NetworkState, stands}
 use Rattle.quiet_laws.specs.Measure.{AreOnWays, sum_below}
-use Rattle.rest_laws.specs.Levels.{Saying, Binds, Withdraws}
-use Rattle.settle_bounds.specs.Worth.{gate, mend_cost, message_worth, worth_at}
+use Rattle.rest_laws.specs.Levels.{Saying, Binds, Withdraws, States}
+use Rattle.settle_bounds.specs.Worth.{gate, mend_cost, message_worth, starts_spoke, worth_at}
 
 -- ---- sessions that come up, and that end
 
--- where a session comes up, the ends beside the peer are mapped
-abbrev pub may_rise : ℕ → EndPlace → Saying → Bool
-may_rise peer place Binds = place.peer.0 == peer
-may_rise peer place Withdraws = false
-may_rise peer place saying = true
+-- where a session comes up, the ends beside the peer are mapped, and the edge may choose other spokes
+abbrev pub may_rise : Plan → EdgeId → ℕ → EndPlace → Saying → Bool
+may_rise plan me peer place Binds = place.peer.0 == peer
+may_rise plan me peer place Withdraws = false
+may_rise plan me peer place saying = starts_spoke me (wire_row plan place.wire)
 
 abbrev pub is_peer : ℕ → Option EdgeId → Bool
 is_peer peer None = false
@@ -30,14 +30,15 @@ is_peer peer (Some other) = other.0 == peer
 abbrev pub may_fall : Plan → EdgeId → ℕ → EndPlace → Saying → Bool
 may_fall plan me peer place Binds = is_peer peer (mate_of me place (wire_row plan place.wire))
 may_fall plan me peer place Withdraws = is_peer peer (mate_of me place (wire_row plan place.wire))
-may_fall plan me peer place saying = true
+may_fall plan me peer place States = is_peer peer (mate_of me place (wire_row plan place.wire)) || starts_spoke me (wire_row plan place.wire)
+may_fall plan me peer place saying = starts_spoke me (wire_row plan place.wire)
 
 -- what an edge puts costs what it is worth, where it may be put
 abbrev pub allowed : Plan → (ℕ → EdgeState) → EdgeId → (EndPlace → Saying → Bool) → EndPlace → Saying → ℕ
 allowed plan edges me may place saying = gate (may place saying) (worth_at plan edges me.0 place saying)
 
 abbrev pub rise_cost : Plan → (ℕ → EdgeState) → EdgeId → ℕ → ℕ
-rise_cost plan edges me peer = mend_cost plan me (allowed plan edges me (may_rise peer))
+rise_cost plan edges me peer = mend_cost plan me (allowed plan edges me (may_rise plan me peer))
 
 abbrev pub fall_cost : Plan → (ℕ → EdgeState) → EdgeId → ℕ → ℕ
 fall_cost plan edges me peer = suc (mend_cost plan me (allowed plan edges me (may_fall plan me peer)))

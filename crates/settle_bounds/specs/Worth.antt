@@ -1,5 +1,5 @@
 -- What a message is worth: one for itself, and all that may come of it while only octets are delivered.
-use Rattle.std.specs.Prelude.{◌==◌, ◌+◌, ◌&&◌, not, nat_lt, ℕ, zero, suc, Bool, true, false, List, [], ◌∷◌, Option, Some, None, option_and_then, if◌then◌else◌}
+use Rattle.std.specs.Prelude.{◌==◌, ◌+◌, ◌&&◌, ◌||◌, not, nat_lt, ℕ, zero, suc, Bool, true, false, List, [], ◌∷◌, Option, Some, None, option_and_then, if◌then◌else◌}
 use Rattle.net_base.specs.declared.plan.Plan.{Plan}
 use Rattle.net_base.specs.declared.plan.places.EdgeId.{EdgeId}
 use Rattle.net_base.specs.declared.plan.wire_plan.WirePlan.{WirePlan}
@@ -13,6 +13,7 @@ use Rattle.edge_model.specs.declared.end_place.EndPlace.{EndPlace}
 use Rattle.edge_model.specs.Across.{end_beside}
 use Rattle.edge_model.specs.EndPlaces.{end_named, end_places, is_terminal}
 use Rattle.edge_model.specs.Ends.{wire_end}
+use Rattle.edge_model.specs.Spokes.{is_spoke_row}
 use Rattle.edge_model.specs.State.{EdgeState}
 use Rattle.rest_laws.specs.Levels.{Saying, Binds, Withdraws, Releases, States, Clears, is_above, level, level_at, pw_id_of, saying_of}
 use Rattle.rest_laws.specs.Rises.{left_above}
@@ -74,23 +75,58 @@ clear_cost plan me cost place row =
 abbrev pub Worths : Type 0
 Worths = ℕ → ℕ → ℕ → Saying → ℕ
 
--- labels go on at the ends of the same wire alone
-abbrev pub may_follow : ℕ → EndPlace → Saying → Bool
-may_follow wire place Binds = place.wire.0 == wire
-may_follow wire place Withdraws = place.wire.0 == wire
-may_follow wire place saying = true
+-- an end is the one of a wire beside a peer, and one on the other side of it
+abbrev pub is_beside : (wire peer : ℕ) → EndPlace → Bool
+is_beside wire peer place = place.wire.0 == wire && place.peer.0 == peer
+
+abbrev pub is_beyond : (wire peer : ℕ) → EndPlace → Bool
+is_beyond wire peer place = place.wire.0 == wire && not (place.peer.0 == peer)
+
+-- the end is that of a spoke of the same service as this wire, where this is a spoke of the edge
+abbrev pub shares_choice : Plan → EdgeId → WirePlan → EndPlace → Bool
+shares_choice plan me row place = starts_spoke me (Some row) && is_spoke_row row.service me (wire_row plan place.wire)
+
+-- A Label Release lets the end itself map anew, and then another spoke may be chosen.
+abbrev pub may_release : Plan → EdgeId → (wire peer : ℕ) → WirePlan → EndPlace → Saying → Bool
+may_release plan me wire peer row place Binds = is_beside wire peer place
+may_release plan me wire peer row place Withdraws = false
+may_release plan me wire peer row place Releases = true
+may_release plan me wire peer row place States = shares_choice plan me row place
+may_release plan me wire peer row place Clears = shares_choice plan me row place
+
+-- Labels go on beyond a switching point; at the other end of the wire they may go back, where that way hangs on this one. A status goes on
+-- beyond a switching point too; and on a spoke of the edge another one may be chosen, whatever was heard.
+abbrev pub may_pass : Plan → EdgeId → (wire peer : ℕ) → WirePlan → EndPlace → Saying → Bool
+may_pass plan me wire peer row place Binds = place.wire.0 == wire && (is_terminal row me || not (place.peer.0 == peer))
+may_pass plan me wire peer row place Withdraws = place.wire.0 == wire && (is_terminal row me || not (place.peer.0 == peer))
+may_pass plan me wire peer row place Releases = true
+may_pass plan me wire peer row place States = is_beyond wire peer place || shares_choice plan me row place
+may_pass plan me wire peer row place Clears = shares_choice plan me row place
+
+-- what may follow at which ends, by what is heard
+abbrev pub may_follow : Plan → EdgeId → (wire peer : ℕ) → WirePlan → (heard : Saying) → EndPlace → Saying → Bool
+may_follow plan me wire peer row Binds place saying = may_pass plan me wire peer row place saying
+may_follow plan me wire peer row Withdraws place saying = may_pass plan me wire peer row place saying
+may_follow plan me wire peer row Releases place saying = may_release plan me wire peer row place saying
+may_follow plan me wire peer row States place saying = may_pass plan me wire peer row place saying
+may_follow plan me wire peer row Clears place saying = true
 
 -- whatever follows is of a higher level
-abbrev pub follow_cost : Plan → (ℕ → EdgeState) → Worths → EdgeId → (least wire : ℕ) → EndPlace → Saying → ℕ
-follow_cost plan edges worths me least wire place saying =
-    gate (is_above plan edges me.0 least place saying && may_follow wire place saying) (worths me.0 place.wire.0 place.peer.0 saying)
+abbrev pub follow_cost : Plan → (ℕ → EdgeState) → Worths → EdgeId → (least : ℕ) → (EndPlace → Saying → Bool) → EndPlace → Saying → ℕ
+follow_cost plan edges worths me least may place saying =
+    gate (is_above plan edges me.0 least place saying && may place saying) (worths me.0 place.wire.0 place.peer.0 saying)
 
--- what may come of a message from a neighbour about the wire of an end: a Label Withdraw is answered too
+-- what follows a message about the wire of an end from the neighbour there
+abbrev pub heard_cost : Plan → (ℕ → EdgeState) → Worths → EdgeId → EndPlace → WirePlan → (heard : Saying) → EndPlace → Saying → ℕ
+heard_cost plan edges worths me place row heard =
+    follow_cost plan edges worths me (level edges place.wire.0 row place.peer.0 me.0 heard) (may_follow plan me place.wire.0 place.peer.0 row heard)
+
+-- what may come of it: a Label Withdraw is answered too
 abbrev pub comes_of : Plan → (ℕ → EdgeState) → Worths → EdgeId → EndPlace → WirePlan → Saying → ℕ
-comes_of plan edges worths me place row Clears = clear_cost plan me (follow_cost plan edges worths me (level edges place.wire.0 row place.peer.0 me.0 Clears) place.wire.0) place row
+comes_of plan edges worths me place row Clears = clear_cost plan me (heard_cost plan edges worths me place row Clears) place row
 comes_of plan edges worths me place row Withdraws =
-    worths me.0 place.wire.0 place.peer.0 Releases + mend_cost plan me (follow_cost plan edges worths me (level edges place.wire.0 row place.peer.0 me.0 Withdraws) place.wire.0)
-comes_of plan edges worths me place row saying = mend_cost plan me (follow_cost plan edges worths me (level edges place.wire.0 row place.peer.0 me.0 saying) place.wire.0)
+    worths me.0 place.wire.0 place.peer.0 Releases + mend_cost plan me (heard_cost plan edges worths me place row Withdraws)
+comes_of plan edges worths me place row saying = mend_cost plan me (heard_cost plan edges worths me place row saying)
 
 -- an end of a wire beside a peer
 abbrev pub beside : (wire peer : ℕ) → EndPlace

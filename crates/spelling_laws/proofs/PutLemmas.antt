@@ -115,6 +115,20 @@ reply_said own (reply.Notice status) id is small = subst (λ (code : StatusCode)
 
 -- ---- messages are put
 
+-- octets are put, and the session says on
+pub put_stands : (peer : EdgeId) (bytes : List ℕ) (kept : Peering) (work : Work) → work.edge.peering peer.0 ≡ Some kept
+    → (put_octets peer bytes true work).work.edge.peering peer.0 ≡ Some (having_spoken kept)
+unfolding changes gives puts with_peering with_spoken
+put_stands peer bytes kept work at = rw (same_number peer.0, at) refl
+
+-- the first one of several replies
+abbrev pub first_put : EdgeId → Reply → Peering → Work → Spoken
+first_put peer r kept work = put_octets peer (octets_of kept r) true work
+
+pub put_first : (peer : EdgeId) (r : Reply) (rs : List Reply) (kept : Peering) (work : Work) → work.edge.peering peer.0 ≡ Some kept
+    → put_replies taken_all peer (r ∷ rs) work ≡ put_replies taken_all peer rs (first_put peer r kept work).work
+put_first peer r rs kept work at = ap (λ (o : Option Peering). puts_on (put_replies taken_all peer rs) (put_reply_to taken_all peer r o work).failed (put_reply_to taken_all peer r o work).work) at
+
 module _ (plan : Plan) (me peer : EdgeId) where
   abbrev own : Peers
   own = ends_at plan me.0 peer.0
@@ -123,10 +137,6 @@ module _ (plan : Plan) (me peer : EdgeId) where
       → AllTell plan me.0 (put_octets peer bytes true work).work.effects
   put_tells m bytes work fit said is before = subst (AllTell plan me.0) (sym (put_effects peer bytes work))
       (tell_joined plan me.0 work.effects (effect.Said peer bytes ∷ []) before (record { message = m; fit = fit; said = said; spelled = is }, tt))
-
-  put_stands : (bytes : List ℕ) (kept : Peering) (work : Work) → work.edge.peering peer.0 ≡ Some kept → (put_octets peer bytes true work).work.edge.peering peer.0 ≡ Some (having_spoken kept)
-  unfolding changes gives puts with_peering with_spoken
-  put_stands bytes kept work at = rw (same_number peer.0, at) refl
 
   -- a message about pseudowires
   pub message_tells : (message : ℕ → Message) (kept : Peering) (work : Work) → Speaks own kept → IsSaidAcross own (message kept.next_id) → AllTell plan me.0 work.effects
@@ -139,14 +149,7 @@ module _ (plan : Plan) (me peer : EdgeId) where
     pub taken : put.failed ≡ false
     pub tell : AllTell plan me.0 put.work.effects
 
-  abbrev first_put : Reply → Peering → Work → Spoken
-  first_put r kept work = put_octets peer (octets_of kept r) true work
-
-  put_first : (r : Reply) (rs : List Reply) (kept : Peering) (work : Work) → work.edge.peering peer.0 ≡ Some kept
-      → put_replies taken_all peer (r ∷ rs) work ≡ put_replies taken_all peer rs (first_put r kept work).work
-  put_first r rs kept work at = ap (λ (o : Option Peering). puts_on (put_replies taken_all peer rs) (put_reply_to taken_all peer r o work).failed (put_reply_to taken_all peer r o work).work) at
-
-  one_put : (r : Reply) (kept : Peering) (work : Work) → Speaks own kept → IsSaidReply r → AllTell plan me.0 work.effects → AllTell plan me.0 (first_put r kept work).work.effects
+  one_put : (r : Reply) (kept : Peering) (work : Work) → Speaks own kept → IsSaidReply r → AllTell plan me.0 work.effects → AllTell plan me.0 (first_put peer r kept work).work.effects
   one_put r kept work speaks is before =
       put_tells (message_of r kept.next_id own) (octets_of kept r) work speaks.fit (reply_said own r kept.next_id is speaks.low)
       (ap (λ (p : Peers). written (message_of r kept.next_id p) (platform_of p.me)) speaks.peers) before
@@ -155,6 +158,6 @@ module _ (plan : Plan) (me peer : EdgeId) where
       → HavePut (put_replies taken_all peer rs work)
   replies_put [] kept work at speaks are before = record { taken = refl; tell = before }
   replies_put (r ∷ rs) kept work at speaks are before =
-      subst HavePut (sym (put_first r rs kept work at))
-      (replies_put rs (having_spoken kept) (first_put r kept work).work (put_stands (octets_of kept r) kept work at)
+      subst HavePut (sym (put_first peer r rs kept work at))
+      (replies_put rs (having_spoken kept) (first_put peer r kept work).work (put_stands peer (octets_of kept r) kept work at)
       (having_spoken_speaks own kept speaks) are.1 (one_put r kept work speaks are.0 before))

@@ -108,6 +108,17 @@ module _ (own other : Peers) (kept : Peering) (far : Option Peering) (out back :
 
 -- ---- an event happens
 
+pub moved_stands : (peer : EdgeId) (now : Peering) (work : Work) → (changes (with_peering peer (Some now)) work).edge.peering peer.0 ≡ Some now
+unfolding changes with_peering
+moved_stands peer now work = rw (same_number peer.0) refl
+
+pub cleared_effects : (peer : EdgeId) (work : Work) → (clears_ends peer work).effects ≡ work.effects
+unfolding changes with_ends_beside with_kept
+cleared_effects peer work = by (has_end work.edge peer) where
+  by : (b : Bool) → (cond b work (changes (losing_ends peer) work)).effects ≡ work.effects
+  by true = refl
+  by false = refl
+
 module _ (plan : Plan) (me peer : EdgeId) where
   abbrev own : Peers
   own = ends_at plan me.0 peer.0
@@ -123,10 +134,6 @@ module _ (plan : Plan) (me peer : EdgeId) where
       let gone : Work = changes (with_peering peer None) work in
       gives_tell plan me.0 (effect.Closed peer) (gives (effect.Session peer (name.Ended why)) gone) tt
       (gives_tell plan me.0 (effect.Session peer (name.Ended why)) gone tt (changes_tell plan me.0 (with_peering peer None) work before))
-
-  moved_stands : (now : Peering) (work : Work) → (changes (with_peering peer (Some now)) work).edge.peering peer.0 ≡ Some now
-  unfolding changes with_peering
-  moved_stands now work = rw (same_number peer.0) refl
 
   comes_tell : (kept : Peering) (o : Outcome) (work : Work) → work.edge.peering peer.0 ≡ Some kept → Speaks own kept → SaysAcross own o → AllTell plan me.0 work.effects
       → AllTell plan me.0 (comes_of taken_all peer kept o work).effects
@@ -145,23 +152,16 @@ module _ (plan : Plan) (me peer : EdgeId) where
       put = put_replies taken_all peer replies moved
 
       replied : HavePut plan me peer put
-      replied = replies_put plan me peer replies now moved (moved_stands now work) (record { peers = says.0; fit = speaks.fit; low = speaks.low }) says.1
+      replied = replies_put plan me peer replies now moved (moved_stands peer now work) (record { peers = says.0; fit = speaks.fit; low = speaks.low }) says.1
           (changes_tell plan me.0 (with_peering peer (Some now)) work before)
   comes_tell kept (Ends why replies) work at speaks says before =
       ends_tell why (put_replies taken_all peer replies work).work (replies_put plan me peer replies kept work at speaks says before).tell
-
-  cleared_effects : (work : Work) → (clears_ends peer work).effects ≡ work.effects
-  unfolding changes with_ends_beside with_kept
-  cleared_effects work = by (has_end work.edge peer) where
-    by : (b : Bool) → (cond b work (changes (losing_ends peer) work)).effects ≡ work.effects
-    by true = refl
-    by false = refl
 
   -- where an end stands it says by the plan; where none does nothing happens
   pub event_tells : (event : SessionEvent) (work : Work)
       → ((kept : Peering) → work.edge.peering peer.0 ≡ Some kept → Speaks own kept × SaysAcross own (outcome_of kept.session event))
       → AllTell plan me.0 work.effects → AllTell plan me.0 (happens_with_ends taken_all peer event work).effects
-  event_tells event work standing before = subst (AllTell plan me.0) (sym (cleared_effects (happens taken_all peer event work))) (by (work.edge.peering peer.0) refl) where
+  event_tells event work standing before = subst (AllTell plan me.0) (sym (cleared_effects peer (happens taken_all peer event work))) (by (work.edge.peering peer.0) refl) where
     by : (near : Option Peering) → work.edge.peering peer.0 ≡ near → AllTell plan me.0 (happens_to taken_all peer event near work).effects
     by None at = before
     by (Some kept) at = (let both = standing kept at in comes_tell kept (outcome_of kept.session event) work at both.0 both.1 before)

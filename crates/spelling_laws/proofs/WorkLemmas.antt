@@ -86,6 +86,12 @@ hears_standing plan network me peer messages work hears k kept at = elim (cases_
       | inr gone ↦ speaks_by (ends_at plan me.0 k) (ends_at plan k me.0) kept (subst (StandsIf (ends_at plan me.0 k) (ends_at plan k me.0)) at (hears.left k gone away).leaves.talk.here)
     ]
 
+-- what the two ends have to say to each other
+pub talk_at : (plan : Plan) (network : NetworkState) (me peer : EdgeId) (messages : List Message) (kept : Peering) (work : Work) → work.edge.peering peer.0 ≡ Some kept
+    → (hears : HearsOn plan network me peer messages work)
+    → AreTalking (ends_at plan me.0 peer.0) (ends_at plan peer.0 me.0) (Some kept) ((network.edges peer.0).peering me.0) hears.meets.messages messages
+talk_at plan network me peer messages kept work at hears = rw at at hears.meets.talk
+
 -- ---- an edge at work
 
 module _ (plan : Plan) (network : NetworkState) (me : EdgeId) (checked : IsChecked plan) (types : HasTypes plan) where
@@ -131,10 +137,6 @@ module _ (plan : Plan) (network : NetworkState) (me peer : EdgeId) (apart : nat_
   stands_at : (messages : List Message) (kept : Peering) (work : Work) → work.edge.peering peer.0 ≡ Some kept → HearsOn plan network me peer messages work → IsStanding own other kept
   stands_at messages kept work at hears = subst (StandsIf own other) at hears.meets.talk.here
 
-  talk_at : (messages : List Message) (kept : Peering) (work : Work) → work.edge.peering peer.0 ≡ Some kept → (hears : HearsOn plan network me peer messages work)
-      → AreTalking own other (Some kept) ((network.edges peer.0).peering me.0) hears.meets.messages messages
-  talk_at messages kept work at hears = rw at at hears.meets.talk
-
   sender_tells : (messages : List Message) (work : Work) → Hears messages work → AllTell plan me.0 (happens_with_ends taken_all peer (Heard (platform_of other.me)) work).effects
   sender_tells messages work i = event_tells plan me peer (Heard (platform_of other.me)) work (λ kept at. (
     hears_standing plan network me peer messages work i.0 peer.0 kept at,
@@ -144,7 +146,7 @@ module _ (plan : Plan) (network : NetworkState) (me peer : EdgeId) (apart : nat_
   message_tells_on : (m : Message) (messages : List Message) (work : Work) → Hears (m ∷ messages) work → AllTell plan me.0 (happens_with_ends taken_all peer (Received m) work).effects
   message_tells_on m messages work i = event_tells plan me peer (Received m) work (λ kept at. (
     hears_standing plan network me peer (m ∷ messages) work i.0 peer.0 kept at,
-    received_says own other kept ((network.edges peer.0).peering me.0) i.0.meets.messages messages m (talk_at (m ∷ messages) kept work at i.0),
+    received_says own other kept ((network.edges peer.0).peering me.0) i.0.meets.messages messages m (talk_at plan network me peer (m ∷ messages) kept work at i.0),
   )) i.1
 
   pub hears_told : KeptByMessages plan peer other Hears
