@@ -7,7 +7,7 @@ use std::marker::Model;
 
 /// The octets that an edge put towards another one and that are not delivered yet, in order. Contracts see the list of
 /// them. The octets before `start` are delivered; they go when they are more than half of what lies there, so that
-/// deliveries move at most as many octets as they deliver.
+/// deliveries move at most as many octets as they deliver, and never more lie there than twice those in the pipe.
 #[derive(Drop)]
 pub struct Pipe {
     octets: Vec<u8>,
@@ -15,13 +15,13 @@ pub struct Pipe {
 }
 
 impl Model for Pipe {
-    ghost use Rattle.std.specs.Prelude.{ℕ, List, drop, ◌≤◌, length};
+    ghost use Rattle.std.specs.Prelude.{ℕ, List, drop, ◌≤◌, ◌+◌, length};
 
     ghost Value = { List ℕ };
 
     ghost view = { λ p. drop p.start p.octets.items };
 
-    ghost invariant = { λ p. p.start ≤ length p.octets.items };
+    ghost invariant = { λ p. p.start + p.start ≤ length p.octets.items };
 }
 
 impl Pipe {
