@@ -1,32 +1,48 @@
 //! The TLVs of a message, each found once.
-ghost use Rattle.std.specs.Prelude.{◌≡◌, ◌≤◌, ◌==◌, List, None, IfSome, length, option_copied};
+ghost use Rattle.std.specs.Prelude.{◌≡◌, ◌≤◌, ◌<◌, ◌==◌, ℕ, List, IfSome, length, drop, option_copied};
 ghost use Rattle.net_values.specs.declared.field.Field.{Field};
 ghost use Rattle.ldp_grammar.specs.{Rows.{row_of}, Tlvs.{Tlv, IsJoined, count_of, first_unknown, value_of}};
-ghost use Rattle.ldp_codec.specs.{TlvIndex.{AreFew, AreKept, value_in}, Views.{AreSound}};
+ghost use Rattle.ldp_codec.specs.{TlvIndex.{AreKept, AreWhole, IsWhole, beginning, front_value}, Views.{AreSound}};
 
 use crate::field_set::place_of;
+use crate::numbers::two;
 use crate::tlv::{TYPE_LIMIT, split_tlv};
 use crate::tlv_search::find_value;
 use crate::tlv_walk::unknown;
 use ldp_grammar::{MessageKind, TLV_HEADER, field_of_type};
 use std::marker::Model;
 
-/// The TLVs of a message, with the value of the first one of each field. Contracts see the octets that they are.
+// The place of no TLV.
+const ABSENT: u16 = 65535;
+
+/// The TLVs of a message, with the places where the first one of each field begins. Contracts see the octets that they are.
 #[derive(Drop)]
 pub struct TlvIndex<'a> {
     octets: &'a [u8],
-    values: [Option<&'a [u8]>; 12],
+    places: [u16; 12],
 }
 
 impl<'a> Model for TlvIndex<'a> {
     ghost use Rattle.std.specs.Prelude.{List, ℕ};
-    ghost use Rattle.ldp_codec.specs.TlvIndex.{AreFirst, AreFew};
+    ghost use Rattle.ldp_codec.specs.TlvIndex.{AreFirst, AreWhole};
 
     ghost Value = { List ℕ };
 
     ghost view = { λ t. t.octets.now };
 
-    ghost invariant = { λ t. AreFirst t.octets.now t.values × AreFew t.values };
+    ghost invariant = { λ t. AreFirst t.octets.now t.places × AreWhole t.octets.now t.places };
+}
+
+// The value of the TLV in front, which stands there whole.
+fn value_in_front(rest: &[u8]) -> &[u8]
+    requires { IsWhole rest.now }
+    ensures value { result.now ≡ front_value rest.now }
+    ensures few { length result.now ≤ 65535 }
+{
+    let len = two(rest, 2) as usize;
+    let (_, body) = rest.split_at(TLV_HEADER);
+    let (value, _) = body.split_at(len);
+    value
 }
 
 impl<'a> TlvIndex<'a> {
@@ -35,10 +51,15 @@ impl<'a> TlvIndex<'a> {
         ensures value { (ts : List Tlv) → IsJoined self.now ts → option_copied result ≡ value_of tlv ts }
         ensures few { IfSome result (λ value. length value.now ≤ 65535) }
     {
-        match field_of_type(tlv) {
-            Some(field) => self.values[place_of(field)],
-            None => find_value(tlv, self.octets),
+        let Some(field) = field_of_type(tlv) else {
+            return find_value(tlv, self.octets);
+        };
+        let at = self.places[place_of(field)];
+        if at == ABSENT {
+            return None;
         }
+        let (_, rest) = self.octets.split_at(at as usize);
+        Some(value_in_front(rest))
     }
 
     /// The octets that they are.
@@ -60,36 +81,37 @@ impl<'a> TlvIndex<'a> {
     }
 }
 
-// No value of any field.
-fn no_values<'a>() -> [Option<&'a [u8]>; 12]
-    ensures { (field : Field) → value_in result field ≡ None }
+// The place of no TLV for each field.
+fn no_places() -> [u16; 12]
+    ensures { (field : Field) → beginning result field ≡ 65535 }
 {
-    [None; 12]
+    [ABSENT; 12]
 }
 
-// Keeps the value of a TLV of this type, where it is the first one of its field.
-fn keep<'a>(values: &mut [Option<&'a [u8]>; 12], tlv: u16, value: &'a [u8])
-    requires { length value.now ≤ 65535 }
-    ensures kept { AreKept values.old values.new tlv value.now }
-    ensures few { AreFew values.old → AreFew values.new }
+// Keeps the place of a TLV of this type, where it is the first one of its field.
+#[tactic(auto, using(crate::proofs::IndexLemmas::kept_place))]
+fn keep(places: &mut [u16; 12], tlv: u16, at: u16)
+    ensures kept { AreKept places.old places.new tlv at }
+    ensures whole { (octets : List ℕ) → IsWhole (drop at octets) → AreWhole octets places.old → AreWhole octets places.new }
 {
     if let Some(field) = field_of_type(tlv) {
         let place = place_of(field);
-        if values[place].is_none() {
-            values[place] = Some(value);
+        if places[place] == ABSENT {
+            places[place] = at;
         }
     }
 }
 
 /// The TLVs that the octets are, and the type of the first that is unknown in the message and not to be ignored.
-#[tactic(auto, using(crate::proofs::IndexLemmas::index_none, crate::proofs::IndexLemmas::none_few, crate::proofs::IndexLemmas::index_all, crate::proofs::IndexLemmas::unknown_all))]
+#[tactic(auto, using(crate::proofs::IndexLemmas::index_none, crate::proofs::IndexLemmas::none_whole, crate::proofs::IndexLemmas::index_all, crate::proofs::IndexLemmas::unknown_all))]
 pub fn index_tlvs(kind: MessageKind, octets: &[u8]) -> (Option<u16>, TlvIndex<'_>)
-    requires { AreSound (row_of kind) octets.now }
+    requires sound { AreSound (row_of kind) octets.now }
+    requires few { length octets.now < 65535 }
     ensures octets { result.1 ≡ octets.now }
     ensures first { (ts : List Tlv) → IsJoined octets.now ts → result.0 ≡ first_unknown (row_of kind) ts }
 {
     let mut first = None;
-    let mut values = no_values();
+    let mut places = no_places();
     let mut at = 0;
     'indexing: while at < octets.len() {
         let (_, rest) = octets.split_at(at);
@@ -97,8 +119,8 @@ pub fn index_tlvs(kind: MessageKind, octets: &[u8]) -> (Option<u16>, TlvIndex<'_
             unreachable!()
         };
         first = first.or(unknown(kind, word));
-        keep(&mut values, word % TYPE_LIMIT, value);
+        keep(&mut places, word % TYPE_LIMIT, at as u16);
         at += TLV_HEADER + value.len();
     }
-    (first, TlvIndex { octets, values })
+    (first, TlvIndex { octets, places })
 }
