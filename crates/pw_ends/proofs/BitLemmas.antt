@@ -1,10 +1,10 @@
 -- Bits of the word of marks.
-use Rattle.std.proofs.Common.{◌≡◌, ◌≢◌, ◌<◌, ◌≤◌, ◌*◌, ◌^◌, ◌%◌, ◌||◌, ◌==◌, ◌∙◌, ℕ, Bool, true, false, not, cond, refl, bit_or, bit_and, nat_eq, nat_lt, ap, arith, eq-eqb, inl, inr, w64}
+use Rattle.std.proofs.Common.{◌≡◌, ◌≢◌, ◌<◌, ◌≤◌, ◌*◌, ◌^◌, ◌%◌, ◌||◌, ◌==◌, ◌∙◌, ℕ, Bool, true, false, not, cond, refl, bit_or, bit_and, max, nat_eq, nat_lt, ap, sym, arith, eq-eqb, inl, inr, w64}
 use Rattle.std.proofs.lemmas.Bool.{cases_Bool, or_right}
 use Rattle.std.proofs.lemmas.Bool.Decides.{nat_tests}
-use Rattle.std.proofs.lemmas.Nat.Bits.{bit_at_set_same, bit_at_set_other, bit_at_clear_same, bit_at_clear_other, bit_at-zero}
+use Rattle.std.proofs.lemmas.Nat.Bits.{bit_at_set_same, bit_at_set_other, bit_at_clear_same, bit_at_clear_other, bit_at_or, bit_at-lt, bit_at-zero}
 use Rattle.std.specs.Int.{bit_at, bit_not}
-use Rattle.net_values.proofs.BoolLemmas.{or_false}
+use Rattle.net_values.proofs.BoolLemmas.{first_fails, or_false, second_fails}
 use Rattle.pw_ends.specs.declared.peer_marks.PeerMarks.{PeerMarks}
 use Rattle.pw_ends.specs.Marks.{is_marked}
 
@@ -12,6 +12,19 @@ use Rattle.pw_ends.specs.Marks.{is_marked}
 pub unmarked : (marks : PeerMarks) (k : ℕ) → marks.word ≡ 0 → is_marked marks k ≡ not (nat_lt k 64)
 unfolding is_marked
 unmarked marks k none = ap (λ (word : ℕ). not (nat_lt k 64) || nat_eq (bit_at word k) 1) none ∙ (ap (λ (n : ℕ). not (nat_lt k 64) || nat_eq n 1) (bit_at-zero k) ∙ or_false (not (nat_lt k 64)))
+
+-- each bit that is on is so in another word
+pub bits_within : (marks others : PeerMarks) (k : ℕ) → bit_or marks.word others.word ≡ others.word → is_marked others k ≡ false → is_marked marks k ≡ false
+unfolding is_marked
+bits_within marks others k within is =
+    ap (λ (b : Bool). b || nat_eq (bit_at marks.word k) 1) (first_fails (not (nat_lt k 64)) (nat_eq (bit_at others.word k) 1) is)
+    ∙ off (second_fails (not (nat_lt k 64)) (nat_eq (bit_at others.word k) 1) is)
+  where
+    both : bit_at others.word k ≡ max (bit_at marks.word k) (bit_at others.word k)
+    both = ap (λ (word : ℕ). bit_at word k) (sym within) ∙ bit_at_or marks.word others.word k
+
+    off : nat_eq (bit_at others.word k) 1 ≡ false → nat_eq (bit_at marks.word k) 1 ≡ false
+    off none = grind (arith, nat_tests, none, both, bit_at-lt others.word k)
 
 -- one bit is set
 pub bit_set : (marks now : PeerMarks) (peer k : ℕ) → peer < 64 → now.word ≡ bit_or marks.word (1 * 2 ^ peer % 2 ^ 64) → is_marked now k ≡ (k == peer || is_marked marks k)

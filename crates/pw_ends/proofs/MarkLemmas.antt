@@ -1,5 +1,5 @@
 -- Of a neighbour without a mark nothing was told: what sets marks and takes them away.
-use Rattle.std.proofs.Common.{◌≡◌, ◌⊎◌, ◌<◌, ◌∙◌, ◌==◌, ◌||◌, nat_lt, ℕ, zero, suc, Bool, true, false, not, cond, List, [], ◌∷◌, length, get_or, set, replicate, refl, ap, sym, subst, arith, inl, inr}
+use Rattle.std.proofs.Common.{◌≡◌, ◌⊎◌, ◌∙◌, ◌==◌, ◌||◌, nat_lt, ℕ, zero, suc, Bool, true, false, not, cond, List, [], ◌∷◌, length, get_or, set, replicate, refl, ap, sym, subst, arith, inl, inr}
 use Rattle.std.proofs.lemmas.Bool.{cases_Bool, true≢false}
 use Rattle.std.proofs.lemmas.Bool.Decides.{nat_tests}
 use Rattle.net_values.proofs.BoolLemmas.{second_fails}
@@ -91,12 +91,6 @@ pub seen_untold : (marks : ℕ → Bool) (peer : EdgeId) (lists : EndLists) → 
 unfolding seen_ends
 seen_untold marks peer lists untold count none =
     sym (look_beside peer lost lists.places lists.ends refl count) ∙ ap (look lists.places) (lost_none marks peer lists.places lists.ends untold none)
-
--- a word without a bit marks none of the 64
-pub none_marked : (marks : ℕ → Bool) (peer : ℕ) → ((k : ℕ) → marks k ≡ not (nat_lt k 64)) → peer < 64 → marks peer ≡ false
-none_marked marks peer none within = none peer ∙ below where
-  below : not (nat_lt peer 64) ≡ false
-  below = grind (arith, nat_tests)
 
 -- at first nothing was told
 pub untold_opened : (marks : ℕ → Bool) (places : List EndPlace) (count : ℕ) → AreUntold marks places (replicate count fresh)

@@ -17,5 +17,6 @@ mod segment;
 mod which_ends;
 
 pub use end_change::EndChange;
+pub use peer_marks::PeerMarks;
 pub use pw_ends::PwEnds;
 pub use role::role_of;

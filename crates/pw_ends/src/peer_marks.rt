@@ -1,11 +1,10 @@
-//! The neighbours of which something may have been told.
+//! Marks of neighbours.
 ghost use Rattle.std.specs.Prelude.{◌≡◌, ◌==◌, ◌||◌, ℕ, true, false, not, nat_lt, if◌then◌else◌};
 ghost use Rattle.pw_ends.specs.Marks.{is_marked};
 
 use net_base::EdgeId;
 
-/// A mark for each edge of a plan, at most 64, as a bit of a word: without it, nothing was told of the ends beside that neighbour. So a
-/// session that is lost again, as each absent one is at each tick, takes no walk over the ends. An edge past the 64 counts as marked.
+/// A mark for each edge of a plan, at most 64, as a bit of a word. An edge past the 64 counts as marked.
 #[derive(Clone, Copy)]
 pub struct PeerMarks {
     word: u64,
@@ -14,7 +13,7 @@ pub struct PeerMarks {
 impl PeerMarks {
     /// No edge is marked.
     #[tactic(auto, using(crate::proofs::BitLemmas::unmarked))]
-    pub(crate) fn new() -> PeerMarks
+    pub fn new() -> PeerMarks
         ensures { (k : ℕ) → is_marked result k ≡ not (nat_lt k 64) }
     {
         PeerMarks { word: 0 }
@@ -22,7 +21,7 @@ impl PeerMarks {
 
     /// Whether a neighbour is marked.
     #[tactic(auto, unfolding(crate::specs::Marks::is_marked))]
-    pub(crate) fn has(self, peer: EdgeId) -> bool
+    pub fn has(self, peer: EdgeId) -> bool
         ensures { result ≡ is_marked self peer.0 }
     {
         if peer.0 >= 64 {
@@ -31,17 +30,17 @@ impl PeerMarks {
         (self.word >> peer.0) & 1 == 1
     }
 
-    /// Whether none of the 64 is.
-    #[tactic(auto, using(crate::proofs::BitLemmas::unmarked))]
-    pub(crate) fn is_empty(self) -> bool
-        ensures { result ≡ true → (k : ℕ) → is_marked self k ≡ not (nat_lt k 64) }
+    /// Whether each that is marked is so by others too.
+    #[tactic(auto, using(crate::proofs::BitLemmas::bits_within))]
+    pub(crate) fn is_within(self, others: PeerMarks) -> bool
+        ensures { result ≡ true → (k : ℕ) → is_marked others k ≡ false → is_marked self k ≡ false }
     {
-        self.word == 0
+        self.word | others.word == others.word
     }
 
     /// A neighbour is marked.
     #[tactic(auto, using(crate::proofs::BitLemmas::bit_set, crate::proofs::BitLemmas::bit_past))]
-    pub(crate) fn with(self, peer: EdgeId) -> PeerMarks
+    pub fn with(self, peer: EdgeId) -> PeerMarks
         ensures { (k : ℕ) → is_marked result k ≡ (k == peer.0 || is_marked self k) }
     {
         if peer.0 >= 64 {
@@ -54,7 +53,7 @@ impl PeerMarks {
 
     /// The mark of a neighbour is taken away.
     #[tactic(auto, using(crate::proofs::BitLemmas::bit_cleared, crate::proofs::BitLemmas::bit_kept))]
-    pub(crate) fn without(self, peer: EdgeId) -> PeerMarks
+    pub fn without(self, peer: EdgeId) -> PeerMarks
         ensures { (k : ℕ) → is_marked result k ≡ (if k == peer.0 then not (nat_lt k 64) else is_marked self k) }
     {
         if peer.0 >= 64 {

@@ -1,5 +1,5 @@
 //! The pseudowire ends of an edge.
-ghost use Rattle.std.specs.Prelude.{◌≡◌, ◌≤◌, ◌<◌, ◌==◌, ◌↔◌, ℕ, List, Some, None, [], true, length, map, position, replicate, slice_get, is_some, option_and_then, option_map, IfOk, IfSome};
+ghost use Rattle.std.specs.Prelude.{◌≡◌, ◌≤◌, ◌<◌, ◌==◌, ◌↔◌, ℕ, List, Some, None, [], true, length, map, position, replicate, slice_get, is_some, option_and_then, option_map, false, IfOk, IfSome};
 ghost use Rattle.std.specs.List.{find, list_any};
 ghost use Rattle.net_base.specs.plan.Accepted.{IsChecked};
 ghost use Rattle.label_space.specs.{declared.kept.Kept.{Kept}, Kept.{without}};
@@ -10,7 +10,7 @@ ghost use Rattle.edge_model.specs.EndPlaces.{end_places, is_at, is_end_of_wire, 
 ghost use Rattle.edge_model.specs.{Labels.{keeps_lost, keeps_one, keeps_owned, left_label, owners_of}, Packet.{advertises_label}};
 ghost use Rattle.edge_model.specs.State.{first_label};
 ghost use Rattle.pw_ends.specs.Changes.{changed, changed_each, changed_in, keeps_changed, keeps_meant};
-ghost use Rattle.pw_ends.specs.{Kept.{AreApart, IsOwner, freed_one, segment_of}, Owned.{without_owned_one}};
+ghost use Rattle.pw_ends.specs.{Marks.{is_marked}, Kept.{AreApart, IsOwner, freed_one, segment_of}, Owned.{without_owned_one}};
 ghost use Rattle.pw_ends.specs.Ends.{CanHold, HasKind, Holds, IsIdle, changed_at, changed_beside, end_in, end_there, owns_label, place_of, renewed_of, seen_ends};
 
 use crate::end_change::EndChange;
@@ -35,6 +35,7 @@ pub struct PwEnds {
     ends: Vec<PwEnd>,
     labels: LabelSpace,
     owned: OwnedLabels,
+    // Of the ends beside a neighbour without a mark nothing was told, so that a session that is lost again takes no walk over them.
     marks: PeerMarks,
 }
 
@@ -377,15 +378,15 @@ impl PwEnds {
         !self.marks.has(peer)
     }
 
-    /// The same of every peer at once.
+    /// The same of every peer without one of these marks.
     #[tactic(auto, using(crate::proofs::MarkLemmas::seen_untold))]
-    pub fn are_untold(&self) -> bool
-        ensures untold { result ≡ true → (peer : EdgeId) → peer.0 < 64 → changed_beside peer lost (seen_ends self.now) ≡ seen_ends self.now }
-        ensures kept { result ≡ true → (peer : EdgeId) → peer.0 < 64 → (kept : List Kept) → keeps_lost peer (seen_ends self.now) self.now.places kept ≡ kept }
+    pub fn are_untold_but(&self, others: PeerMarks) -> bool
+        ensures untold { result ≡ true → (peer : EdgeId) → is_marked others peer.0 ≡ false → changed_beside peer lost (seen_ends self.now) ≡ seen_ends self.now }
+        ensures kept { result ≡ true → (peer : EdgeId) → is_marked others peer.0 ≡ false → (kept : List Kept) → keeps_lost peer (seen_ends self.now) self.now.places kept ≡ kept }
     {
         // Named so that what always holds of the fields is at hand for the proof.
         let _ = &self.places;
-        self.marks.is_empty()
+        self.marks.is_within(others)
     }
 
     /// A connection with a peer begins: each number that waits for it begins to rest.
