@@ -33,6 +33,7 @@ pub mod StitchLemmas
 pub mod StayLemmas
 pub mod SwitchLemmas
 pub mod SyncLemmas
+pub mod SessionsLemmas
 pub mod TickLemmas
 pub mod TidyLemmas
 pub mod WorkLemmas

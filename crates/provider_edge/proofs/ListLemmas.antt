@@ -123,11 +123,10 @@ seen_put c peer kept within = λ i. record (seen c) { peering = λ k. at k i } w
       ≡ put_at (λ n. (view None c.peerings n)) peer.0 (kept) k
   at k = (view_at None c.peerings peer.0 kept k within) ∙ chosen k (nat_eq k peer.0) refl
 
--- what is read within the list
-pub peering_read : (c : EdgeLists) (peer : EdgeId) (kept : Option Peering) → peer.0 < length c.peerings → kept ≡ slice_index_or c.peerings peer.0 kept
-    → kept ≡ (seen c).peering peer.0
+-- what is read of the list
+pub peering_read : (c : EdgeLists) (peer : EdgeId) (kept : Option Peering) → kept ≡ slice_index_or c.peerings peer.0 None → kept ≡ (seen c).peering peer.0
 unfolding seen
-peering_read c peer kept within read = (read ∙ same_read c.peerings peer.0 kept None within)
+peering_read c peer kept read = read
 
 -- past its end nothing is kept
 pub peering_past : (c : EdgeLists) (peer : EdgeId) → length c.peerings ≤ peer.0 → (seen c).peering peer.0 ≡ None

@@ -22,11 +22,12 @@ use Rattle.edge_model.specs.State.{EdgeState, Peering, has_end, is_there, with_e
 use Rattle.edge_model.specs.Tick.{ticks_sessions}
 use Rattle.edge_model.specs.Work.{Work, changes}
 use Rattle.peer_dialogue.specs.Heard.{CanBeHeard}
-use Rattle.peer_dialogue.specs.Hearing.{HearsOn, IsAtFault, IsAtPdu, IsWaitingFor, alive}
+use Rattle.peer_dialogue.specs.Hearing.{HearsOn, IsAtFault, IsAtPdu, IsWaiting, IsWaitingFor, alive}
 use Rattle.peer_dialogue.specs.Peering.{at_edge}
 use Rattle.peer_dialogue.proofs.HearLemmas.{ended_all, heard_fault, heard_pdu, held_all, messages_more}
 use Rattle.peer_dialogue.proofs.SpeakerLemmas.{put_same, put_twice, read_peer}
 use Rattle.provider_edge.specs.Hearing.{AreTakenOut}
+use Rattle.provider_edge.specs.Sessions.{longest_of}
 use Rattle.provider_edge.specs.Lists.{EdgeLists, seen}
 
 -- ---- no session is left
@@ -109,28 +110,67 @@ alive_heard plan now told peer sender id start mid work same is heard =
 pub waits_none : (x : Option Peering) (held : List ℕ) → x ≡ None → IsWaitingFor x held
 waits_none x held none = subst (λ (o : Option Peering). IsWaitingFor o held) (sym none) tt
 
-pub pdu_on : (plan now : Plan) (told : Answers) (peer : EdgeId) (held rest more : List ℕ) (pdu : Pdu) (kept : Peering) (max : ℕ) (edge : EdgeState) (calls : List LinkCall) (out : List Effect) (work : Work) → now ≡ plan
+pdu_kept : (plan now : Plan) (told : Answers) (peer : EdgeId) (held rest more : List ℕ) (pdu : Pdu) (kept : Peering) (max : ℕ) (edge : EdgeState) (calls : List LinkCall) (out : List Effect) (work : Work) → now ≡ plan
     → AreOctets held → AreOctets more → max ≤ 4096 → max ≡ kept.session.max_pdu → Some kept ≡ edge.peering peer.0 → IsAtPdu max held rest pdu
     → work ≡ hears_pdu now told peer pdu (at_edge edge calls out)
     → HearsOn plan told peer (held ++ more) (rest ++ more) (at_edge edge calls out) work
 unfolding at_edge
-pdu_on plan now told peer held rest more pdu kept max edge calls out work same heard others small is there at hears =
+pdu_kept plan now told peer held rest more pdu kept max edge calls out work same heard others small is there at hears =
     let start : Work = record { edge = edge; calls = calls; effects = out; idle = false } in
     let here : IsAtPdu kept.session.max_pdu held rest pdu = subst (λ (n : ℕ). IsAtPdu n held rest pdu) is at in
     heard_pdu plan told peer held rest more pdu kept start work
     heard others (subst (λ (n : ℕ). n ≤ 4096) is small) (sym there) here.front here.shorter
     (hears ∙ ap (λ (p : Plan). hears_pdu p told peer pdu start) same)
 
-pub fault_on : (plan : Plan) (told : Answers) (peer : EdgeId) (held rest more : List ℕ) (refusal : DecodeFault) (kept : Peering) (max : ℕ) (edge after : EdgeState) (calls new : List LinkCall) (out given : List Effect)
+pub pdu_on : (plan now : Plan) (told : Answers) (peer : EdgeId) (held rest more : List ℕ) (pdu : Pdu) (max : ℕ) (edge : EdgeState) (calls : List LinkCall) (out : List Effect) (work : Work) → now ≡ plan
+    → AreOctets held → AreOctets more → max ≤ 4096 → Some max ≡ longest_of (edge.peering peer.0) → IsAtPdu max held rest pdu
+    → work ≡ hears_pdu now told peer pdu (at_edge edge calls out)
+    → HearsOn plan told peer (held ++ more) (rest ++ more) (at_edge edge calls out) work
+pdu_on plan now told peer held rest more pdu max edge calls out work same heard others small longest at hears = by (edge.peering peer.0) refl where
+  by : (x : Option Peering) → edge.peering peer.0 ≡ x → HearsOn plan told peer (held ++ more) (rest ++ more) (at_edge edge calls out) work
+  by None is =
+      let none : Some max ≡ None = longest ∙ ap longest_of is in
+      absurd (cc (none))
+  by (Some kept) is =
+      let here : Some max ≡ Some kept.session.max_pdu = longest ∙ ap longest_of is in
+      let most : max ≡ kept.session.max_pdu = cc (here) in
+      pdu_kept plan now told peer held rest more pdu kept max edge calls out work same heard others small most (sym is) at hears
+
+fault_kept : (plan : Plan) (told : Answers) (peer : EdgeId) (held rest more : List ℕ) (refusal : DecodeFault) (kept : Peering) (max : ℕ) (edge after : EdgeState) (calls new : List LinkCall) (out given : List Effect)
     → AreOctets held → AreOctets more → max ≤ 4096 → max ≡ kept.session.max_pdu → Some kept ≡ edge.peering peer.0 → IsAtFault max held refusal
     → at_edge after new given ≡ happens_with_ends told peer (Refused refusal) (at_edge edge calls out) → after.peering peer.0 ≡ None
     → HearsOn plan told peer (held ++ more) rest (at_edge edge calls out) (at_edge after new given)
 unfolding at_edge
-fault_on plan told peer held rest more refusal kept max edge after calls new out given heard others small is there at happened gone =
+fault_kept plan told peer held rest more refusal kept max edge after calls new out given heard others small is there at happened gone =
     let here : IsAtFault kept.session.max_pdu held refusal = subst (λ (n : ℕ). IsAtFault n held refusal) is at in
     heard_fault plan told peer held rest more here.fault refusal kept
     (record { edge = edge; calls = calls; effects = out; idle = false }) (record { edge = after; calls = new; effects = given; idle = false })
     heard others (subst (λ (n : ℕ). n ≤ 4096) is small) (sym there) here.front here.names happened gone
+
+pub fault_on : (plan : Plan) (told : Answers) (peer : EdgeId) (held rest more : List ℕ) (refusal : DecodeFault) (max : ℕ) (edge after : EdgeState) (calls new : List LinkCall) (out given : List Effect)
+    → AreOctets held → AreOctets more → max ≤ 4096 → Some max ≡ longest_of (edge.peering peer.0) → IsAtFault max held refusal
+    → at_edge after new given ≡ happens_with_ends told peer (Refused refusal) (at_edge edge calls out) → after.peering peer.0 ≡ None
+    → HearsOn plan told peer (held ++ more) rest (at_edge edge calls out) (at_edge after new given)
+fault_on plan told peer held rest more refusal max edge after calls new out given heard others small longest at happened gone = by (edge.peering peer.0) refl where
+  by : (x : Option Peering) → edge.peering peer.0 ≡ x → HearsOn plan told peer (held ++ more) rest (at_edge edge calls out) (at_edge after new given)
+  by None is =
+      let none : Some max ≡ None = longest ∙ ap longest_of is in
+      absurd (cc (none))
+  by (Some kept) is =
+      let here : Some max ≡ Some kept.session.max_pdu = longest ∙ ap longest_of is in
+      let most : max ≡ kept.session.max_pdu = cc (here) in
+      fault_kept plan told peer held rest more refusal kept max edge after calls new out given heard others small most (sym is) at happened gone
+
+-- more is wanted where a session stands, and nothing is where none does
+pub waits_for : (x : Option Peering) (held : List ℕ) (max : ℕ) → Some max ≡ longest_of x → IsWaiting max held → IsWaitingFor x held
+waits_for None held max longest waits = tt
+waits_for (Some kept) held max longest waits =
+    let most : max ≡ kept.session.max_pdu = cc (longest) in
+    subst (λ (n : ℕ). IsWaiting n held) most waits
+
+pub waits_not : (x : Option Peering) (held : List ℕ) → None ≡ longest_of x → IsWaitingFor x held
+waits_not None held longest = tt
+waits_not (Some kept) held longest = absurd (cc (longest))
 
 pub on_plan : (plan now : Plan) (told : Answers) (peer : EdgeId) (octets rest : List ℕ) (work next : Work) → now ≡ plan → HearsOn now told peer octets rest work next
     → HearsOn plan told peer octets rest work next

@@ -258,6 +258,11 @@ was_up_with (Some kept) = by kept.session.phase where
   by phase.OpenRec = refl
   by phase.Operational = refl
 
+-- each session is up or not as it was
+pub tidy_alike : (plan : Plan) (edge : EdgeState) (peering : ℕ → Option Peering) (marks : Option EndMarks) → ((k : ℕ) → was_up (peering k) ≡ was_up (edge.peering k)) → IfSome marks (IsTidy plan edge)
+    → IfSome marks (IsTidy plan (record edge { peering = peering }))
+tidy_alike plan edge peering marks same tidy = tidy_up plan edge peering marks (λ k. was_up_with (peering k) ∙ (same k ∙ sym (was_up_with (edge.peering k)))) tidy
+
 -- in the place of what was kept of a peer something is put that is up or not as it was
 pub tidy_put : (plan : Plan) (peer : EdgeId) (before left : Option Peering) (old mid new : EdgeState) (marks : Option EndMarks) → IfSome marks (IsTidy plan old) → before ≡ old.peering peer.0
     → mid ≡ with_peering peer None old → new ≡ with_peering peer left mid → was_up left ≡ was_up before → IfSome marks (IsTidy plan new)
@@ -307,7 +312,7 @@ cleared_there peer put new clears there =
     let here : Work = record { edge = put; calls = []; effects = []; idle = false } in
     ap (λ (w : Work). w.edge) (clears [] []) ∙ ap (λ (b : Bool). (cond b here (changes (losing_ends peer) here)).edge) there
 
-there_put : (peer : EdgeId) (left : Option Peering) (mid put : EdgeState) → put ≡ with_peering peer left mid → is_there left ≡ true → has_end put peer ≡ true
+pub there_put : (peer : EdgeId) (left : Option Peering) (mid put : EdgeState) → put ≡ with_peering peer left mid → is_there left ≡ true → has_end put peer ≡ true
 unfolding with_peering
 there_put peer left mid put puts there = ap (λ (e : EdgeState). has_end e peer) puts ∙ (ap (λ (b : Bool). is_there (cond b left (mid.peering peer.0))) (same_number peer.0) ∙ there)
 

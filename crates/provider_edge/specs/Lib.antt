@@ -13,3 +13,4 @@ pub mod Said
 pub mod Spokes
 pub mod Taking
 pub mod Tidy
+pub mod Sessions

@@ -24,13 +24,14 @@ mod signalling;
 
 use crate::EdgeStop;
 use crate::end_marks::EndMarks;
+use crate::sessions::Sessions;
 use crate::spokes::Spokes;
 use edge_forwarding::Forwarding;
 use edge_model::{Effects, EndPlace, Input};
 use net_base::{
     CircuitId, Down, EdgeId, Link, List, NoMemory, Plan, SegKey, ServiceId, StateName, WireId,
 };
-use peer_dialogue::{AtWork, Peering};
+use peer_dialogue::AtWork;
 use pw_ends::PwEnds;
 use pw_signalling::PwEnd;
 use std::alloc::Global;
@@ -45,7 +46,7 @@ use vsi_bridge::Bridge;
 pub struct Edge {
     plan: Rc<Plan>,
     me: EdgeId,
-    peerings: Vec<Option<Peering>>,
+    peerings: Sessions,
     ends: PwEnds,
     wires_on: Vec<bool>,
     bits: Vec<u8>,
@@ -62,9 +63,9 @@ impl Model for Edge {
 
     ghost Value = { EdgeLists };
 
-    ghost view = { λ e. record { plan = e.plan.value; me = e.me; peerings = e.peerings.items; ends = e.ends; wires_on = e.wires_on.items; bits = e.bits.items; priorities = e.priorities.items; pings = e.pings.items; spokes = e.spokes; forwarding = e.forwarding; stopped = e.stopped; marks = e.marks } };
+    ghost view = { λ e. record { plan = e.plan.value; me = e.me; peerings = e.peerings; ends = e.ends; wires_on = e.wires_on.items; bits = e.bits.items; priorities = e.priorities.items; pings = e.pings.items; spokes = e.spokes; forwarding = e.forwarding; stopped = e.stopped; marks = e.marks } };
 
-    ghost invariant = { λ e. IsEdge (record { plan = e.plan.value; me = e.me; peerings = e.peerings.items; ends = e.ends; wires_on = e.wires_on.items; bits = e.bits.items; priorities = e.priorities.items; pings = e.pings.items; spokes = e.spokes; forwarding = e.forwarding; stopped = e.stopped; marks = e.marks }) };
+    ghost invariant = { λ e. IsEdge (record { plan = e.plan.value; me = e.me; peerings = e.peerings; ends = e.ends; wires_on = e.wires_on.items; bits = e.bits.items; priorities = e.priorities.items; pings = e.pings.items; spokes = e.spokes; forwarding = e.forwarding; stopped = e.stopped; marks = e.marks }) };
 }
 
 impl Edge {
@@ -209,32 +210,29 @@ impl Edge {
 
     /// The state of the session with a peer (RFC 5036 section 2.5.4): `NonExistent` exactly where the edge's end of their
     /// connection does not stand.
+    #[tactic(auto, unfolding(crate::specs::Lists::seen))]
     pub fn session(&self, peer: EdgeId) -> StateName
         ensures { result ≡ session_name ((seen self.now).peering peer.0) }
     {
-        match self.peering(peer) {
-            Some(peering) => peering.state(),
-            None => StateName::NonExistent,
-        }
+        self.peerings.state(peer)
     }
 
     /// Whether the edge's end of its connection with a peer stands.
+    #[tactic(auto, unfolding(crate::specs::Lists::seen))]
     pub fn has_end(&self, peer: EdgeId) -> bool
         ensures { result ≡ has_end (seen self.now) peer }
     {
-        self.peering(peer).is_some()
+        self.peerings.has(peer)
     }
 
     /// How many octets of a peer are held that are no whole PDU yet: at most 4,100, and none where the edge's end of their
     /// connection does not stand.
+    #[tactic(auto, unfolding(crate::specs::Lists::seen))]
     pub fn held(&self, peer: EdgeId) -> usize
         ensures count { result ≡ length (held_octets ((seen self.now).peering peer.0)) }
         ensures within { result ≤ 4100 }
     {
-        match self.peering(peer) {
-            Some(peering) => peering.held(),
-            None => 0,
-        }
+        self.peerings.held(peer)
     }
 
     /// The edge's end of a pseudowire at a segment of a wire; `None` exactly where the edge has no end of that segment. A switching

@@ -9,6 +9,7 @@ mod end_marks;
 mod ingress;
 mod pings;
 mod quiet;
+mod sessions;
 mod spokes;
 
 pub use edge::Edge;

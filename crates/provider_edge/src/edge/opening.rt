@@ -6,10 +6,10 @@ ghost use Rattle.provider_edge.specs.{Opening.{AreNewEnds, IsNewEdge}, Spokes.{I
 
 use crate::Edge;
 use crate::pings::first_pings;
+use crate::sessions::Sessions;
 use crate::spokes::{Spokes, priorities};
 use edge_forwarding::Forwarding;
 use net_base::{EdgeId, NoMemory, Plan};
-use peer_dialogue::Peering;
 use pw_ends::PwEnds;
 use std::alloc::Global;
 use std::rc::Rc;
@@ -83,7 +83,7 @@ fn forwarding_over(alloc: Global, plan: &Rc<Plan>, me: EdgeId) -> Result<Forward
 // The lists of an edge before its first input.
 #[derive(Drop)]
 struct FirstLists {
-    peerings: Vec<Option<Peering>>,
+    peerings: Sessions,
     wires_on: Vec<bool>,
     bits: Vec<u8>,
     priorities: Vec<u8>,
@@ -92,7 +92,7 @@ struct FirstLists {
 
 // No session stands, every wire is on without a failure and was not pinged, and spokes have the priorities of the plan.
 fn first_lists(alloc: Global, plan: &Plan) -> Result<FirstLists, NoMemory>
-    ensures peerings { IfOk result (λ lists. lists.peerings.items ≡ replicate (length plan.now.edges) None) }
+    ensures peerings { IfOk result (λ lists. lists.peerings ≡ replicate (length plan.now.edges) None) }
     ensures wires { IfOk result (λ lists. lists.wires_on.items ≡ replicate (length plan.now.wires) true) }
     ensures zeros { IfOk result (λ lists. lists.bits.items ≡ replicate (length plan.now.wires) 0) }
     ensures ones { IfOk result (λ lists. lists.pings.items ≡ replicate (length plan.now.wires) 1) }
@@ -103,7 +103,7 @@ fn first_lists(alloc: Global, plan: &Plan) -> Result<FirstLists, NoMemory>
     let bits = vec![in alloc; 0u8; count]?;
     let pings = first_pings(alloc, count)?;
     let priorities = priorities(alloc, plan)?;
-    let peerings = no_peerings(alloc, plan.edges.len())?;
+    let peerings = Sessions::open(alloc, plan.edges.len())?;
     Ok(FirstLists {
         peerings,
         wires_on,
@@ -111,16 +111,4 @@ fn first_lists(alloc: Global, plan: &Plan) -> Result<FirstLists, NoMemory>
         priorities,
         pings,
     })
-}
-
-// No session with any of so many neighbours.
-#[tactic(auto, using(edge_forwarding::proofs::EachLemmas::one_more))]
-fn no_peerings(alloc: Global, count: usize) -> Result<Vec<Option<Peering>>, NoMemory>
-    ensures { IfOk result (λ kept. kept.items ≡ replicate count None) }
-{
-    let mut peerings = Vec::with_capacity(alloc, count)?;
-    for _place in 0..count {
-        peerings.push(None)?;
-    }
-    Ok(peerings)
 }

@@ -1,8 +1,12 @@
 //! A tick passes.
-ghost use Rattle.std.specs.Prelude.{◌≡◌, ◌<◌, true, false, length, OnOk};
+ghost use Rattle.std.specs.Prelude.{◌≡◌, true, false, length, List, OnOk};
+ghost use Rattle.net_base.specs.declared.outside.link_call.LinkCall.{LinkCall};
 ghost use Rattle.session_core.specs.Table.{Ticked};
 ghost use Rattle.edge_model.specs.{Labels.{resting}, Session.{happens_with_ends, losing_ends}, State.{has_end}, Tick.{ticks_sessions}};
+ghost use Rattle.pw_messages.specs.LinkAnswers.{Answers};
+ghost use Rattle.edge_model.specs.declared.effect.Effect.{Effect};
 ghost use Rattle.edge_model.specs.declared.input.Input.TheVariants.{Tick};
+ghost use Rattle.peer_dialogue.specs.Peering.{at_edge};
 ghost use Rattle.provider_edge.specs.{AtWork.{IsBegun, Takes, TakesBy, Works, WorksBy}, Lists.{Keeps, seen}};
 
 use crate::Edge;
@@ -37,20 +41,55 @@ impl Edge {
         }
     }
 
-    // The sessions have a tick, in the plan's order. An edge without a session, of which nothing was told beside any peer, takes no walk.
+    // The sessions have a tick, in the plan's order. Where none has anything to do at it, it takes no walk.
     fn tick_sessions<L: Link>(&mut self, work: &mut AtWork<'_, L>) -> Result<(), NoMemory>
         requires working { self.old.stopped ≡ true }
         ensures goes { Works L.calls self.old work.old self.new work.new }
         ensures step { OnOk result (WorksBy L.calls self.old work.old self.new work.new (λ told. ticks_sessions told 0 (length self.old.plan.edges))) }
     {
-        if self.is_idle() {
+        if self.pass_quietly() {
             return Ok(());
         }
+        self.tick_each(work)?;
+        self.look_ahead();
+        Ok(())
+    }
+
+    // The session with each peer has a tick, in the plan's order.
+    fn tick_each<L: Link>(&mut self, work: &mut AtWork<'_, L>) -> Result<(), NoMemory>
+        requires working { self.old.stopped ≡ true }
+        ensures goes { Works L.calls self.old work.old self.new work.new }
+        ensures step { OnOk result (WorksBy L.calls self.old work.old self.new work.new (λ told. ticks_sessions told 0 (length self.old.plan.edges))) }
+    {
         for place in 0..self.plan.edges.len() {
             let peer = EdgeId(place as u16);
             self.tick_session(peer, work)?;
         }
         Ok(())
+    }
+
+    // The sessions have a tick at which none has anything to do, and no session stands that is still to be lost; false, and nothing has
+    // changed, where that is not known without a walk.
+    fn pass_quietly(&mut self) -> bool
+        requires working { self.old.stopped ≡ true }
+        ensures keeps { Keeps self.old self.new }
+        ensures step { result ≡ true → (told : Answers) (calls : List LinkCall) (out : List Effect)
+            → at_edge (seen self.new) calls out ≡ ticks_sessions told 0 (length self.old.plan.edges) (at_edge (seen self.old) calls out) }
+        ensures stays { result ≡ false → seen self.new ≡ seen self.old }
+    {
+        if !self.ends.are_untold_but(self.peerings.standing()) {
+            return false;
+        }
+        self.peerings.pass_quietly()
+    }
+
+    // Behind a tick that took a walk it is found for how many ticks none is wanted.
+    fn look_ahead(&mut self)
+        requires working { self.old.stopped ≡ true }
+        ensures keeps { Keeps self.old self.new }
+        ensures step { seen self.new ≡ seen self.old }
+    {
+        self.peerings.look_ahead();
     }
 
     // The session with a peer has a tick, where it stands. A peer that is apart is passed by, as most are in a large plan.
@@ -79,16 +118,5 @@ impl Edge {
             return false;
         }
         self.ends.is_untold(peer)
-    }
-
-    // Whether so it is with every peer of the plan.
-    fn is_idle(&self) -> bool
-        ensures absent { result ≡ true → (peer : EdgeId) → has_end (seen self.now) peer ≡ false }
-        ensures untold { result ≡ true → (peer : EdgeId) → peer.0 < length self.now.plan.edges → losing_ends peer (seen self.now) ≡ seen self.now }
-    {
-        if !self.is_alone() {
-            return false;
-        }
-        self.ends.are_untold()
     }
 }

@@ -1,10 +1,10 @@
 //! Connections of the edge: one stands, one is lost, and the edge restarts.
-ghost use Rattle.std.specs.{Prelude.{◌≡◌, ◌<◌, [], true, false, List, length, map, slice_get, OnOk}, List.{list_any}};
+ghost use Rattle.std.specs.{Prelude.{◌≡◌, ◌<◌, [], true, false, List, length, slice_get, OnOk}, List.{list_any}};
 ghost use Rattle.net_base.specs.{plan.Paths.{are_joined}, declared.outside.link_call.LinkCall.{LinkCall}};
 ghost use Rattle.session_core.specs.State.{IsProper};
 ghost use Rattle.edge_model.specs.{Connection.{connects, restart_input}, Labels.{meeting}, Work.{beginning}};
 ghost use Rattle.edge_model.specs.declared.input.Input.TheVariants.{Connected, Lost};
-ghost use Rattle.peer_dialogue.specs.Peering.{connection_with, gone, peers_between};
+ghost use Rattle.peer_dialogue.specs.Peering.{connection_with, peers_between};
 ghost use Rattle.provider_edge.specs.{AtWork.{IsBegun, Takes, TakesBy, Works, WorksBy}, EndOf.{is_end_beside}, Lists.{Keeps, seen, worked}};
 
 use crate::Edge;
@@ -125,22 +125,12 @@ impl Edge {
         ensures step { (calls : List LinkCall) → worked self.new calls (record { idle = false; list = [] }) ≡ restart_input (beginning (seen self.old) calls) }
     {
         self.marks = None;
-        drop_all(&mut self.peerings);
+        self.peerings.clear();
         self.ends.restarted();
         forget_pings(&mut self.pings);
         self.spokes.clear();
         self.forwarding.close_wires();
         self.forwarding.clear();
-    }
-}
-
-// No session stands any more.
-#[tactic(auto, using(edge_forwarding::proofs::EachLemmas::each_next))]
-fn drop_all(peerings: &mut Vec<Option<Peering>>)
-    ensures { peerings.new.items ≡ map gone peerings.old.items }
-{
-    for kept in peerings.iter_mut() {
-        *kept = None;
     }
 }
 

@@ -95,6 +95,7 @@ impl Edge {
     }
 
     // All the PDUs that are held are heard, as long as the session stands.
+    #[tactic(auto, using(crate::proofs::MessageLemmas::waits_for, crate::proofs::MessageLemmas::waits_not))]
     fn hear_held<L: Link>(
         &mut self,
         held: &mut Held,
@@ -108,10 +109,10 @@ impl Edge {
             → HearsOn self.old.plan told peer (held.old ++ more) (held.new ++ more) (at_work L.calls self.old work.old) (at_work L.calls self.new work.new)) }
     {
         'pdus: loop {
-            let Some(peering) = self.peering(peer) else {
+            let Some(max) = self.max_pdu(peer) else {
                 return Ok(());
             };
-            match held.next(work.alloc, peering.max_pdu())? {
+            match held.next(work.alloc, max)? {
                 Next::More => return Ok(()),
                 Next::Fault(fault) => {
                     return self.happens(peer, PeerEvent::Refused(fault), work);

@@ -1,45 +1,41 @@
 //! What an edge keeps of its neighbours: what an event makes of a session, and what is put apart from the events.
-ghost use Rattle.std.specs.Prelude.{◌≡◌, ◌<◌, ◌↔◌, not, List, Some, None, length, option_copied, IfOk, IfSome, OnOk, true, false};
-ghost use Rattle.std.specs.List.{list_all};
+ghost use Rattle.std.specs.Prelude.{◌≡◌, ◌≤◌, ◌<◌, ◌↔◌, List, None, length, IfOk, IfSome, OnOk, true, false};
 ghost use Rattle.net_base.specs.declared.outside.link_call.LinkCall.{LinkCall};
 ghost use Rattle.ldp_codec.specs.declared.decode_fault.DecodeFault.{DecodeFault};
 ghost use Rattle.session_core.specs.Table.{Refused};
 ghost use Rattle.edge_model.specs.{declared.effect.Effect.{Effect}, Hear.{was_up}, Session.{clears_ends, happens, happens_with_ends, says}};
-ghost use Rattle.edge_model.specs.State.{has_end, is_there, with_peering};
+ghost use Rattle.edge_model.specs.State.{has_end, with_peering};
 ghost use Rattle.peer_dialogue.specs.{Event.{MayHappen, event_of}, Peering.{at_edge, held_octets}, PwMessage.{CanBeSaid, numbered}};
-ghost use Rattle.provider_edge.specs.{AtWork.{SaysBy, Works, WorksBy}, Bounds.{HoldsFew}, Lists.{Keeps, seen}, Tidy.{stands_as}};
+ghost use Rattle.provider_edge.specs.{AtWork.{SaysBy, Works, WorksBy}, Bounds.{HoldsFew}, Lists.{Keeps, seen}, Sessions.{longest_of}, Tidy.{stands_as}};
 
 use crate::Edge;
 use net_base::{EdgeId, Link, NoMemory};
 use peer_dialogue::{AtWork, PeerEvent, Peering, PwMessage};
 
 impl Edge {
-    // What is kept of a neighbour, where the edge's end of the connection stands.
-    #[tactic(auto, unfolding(crate::specs::Lists::seen))]
-    pub(crate) fn peering(&self, peer: EdgeId) -> Option<&Peering>
-        ensures { option_copied result ≡ (seen self.now).peering peer.0 }
-    {
-        match self.peerings.get(peer.0 as usize) {
-            Some(Some(peering)) => Some(peering),
-            Some(None) | None => None,
-        }
-    }
-
     /// Whether no end of a connection of the edge stands.
     pub fn is_alone(&self) -> bool
         ensures alone { (result ≡ true) ↔ ((peer : EdgeId) → has_end (seen self.now) peer ≡ false) }
     {
-        is_none_kept(&self.peerings)
+        self.peerings.is_empty()
     }
 
     // Whether the session with a neighbour is up.
+    #[tactic(auto, unfolding(crate::specs::Lists::seen))]
     pub(crate) fn is_up(&self, peer: EdgeId) -> bool
         ensures { result ≡ was_up ((seen self.now).peering peer.0) }
     {
-        match self.peering(peer) {
-            Some(peering) => peering.is_up(),
-            None => false,
-        }
+        self.peerings.is_up(peer)
+    }
+
+    // The most that a PDU Length of a neighbour may be, where the edge's end of the connection stands.
+    #[tactic(auto, unfolding(crate::specs::Lists::seen))]
+    pub(crate) fn max_pdu(&self, peer: EdgeId) -> Option<u16>
+        ensures value { result ≡ longest_of ((seen self.now).peering peer.0) }
+        ensures least { IfSome result (λ max. 256 ≤ max) }
+        ensures longest { IfSome result (λ max. max ≤ 4096) }
+    {
+        self.peerings.max_pdu(peer)
     }
 
     // Takes out what is kept of a neighbour.
@@ -54,7 +50,7 @@ impl Edge {
             return None;
         }
         self.marks = None;
-        self.peerings[peer.0 as usize].take()
+        self.peerings.take(peer)
     }
 
     // Keeps this of a neighbour, or nothing any more.
@@ -66,7 +62,7 @@ impl Edge {
     {
         held_in(&kept);
         self.marks = None;
-        self.peerings[peer.0 as usize] = kept;
+        self.peerings.put(peer, kept);
     }
 
     // Where no session with a neighbour stands, each end beside it is lost (RFC 5036 section 3.5.1.1), if something was told of one, and
@@ -158,13 +154,6 @@ fn held_in(kept: &Option<Peering>) -> usize
         Some(peering) => peering.held(),
         None => 0,
     }
-}
-
-// Whether nothing is kept of any neighbour. A test by a closure is proved where it stands alone.
-fn is_none_kept(peerings: &[Option<Peering>]) -> bool
-    ensures { result ≡ list_all (λ kept. not (is_there kept)) peerings.now }
-{
-    peerings.iter().all(|kept| kept.is_none())
 }
 
 // Whether the session stands, and is up or not as it was.

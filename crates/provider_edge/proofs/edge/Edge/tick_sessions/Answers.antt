@@ -1,27 +1,19 @@
--- In an idle edge the tick passes every peer by; else one more peer has it.
-use Rattle.std.proofs.Common.{◌<◌, ap, length, refl, subst, arith}
+-- A tick that is quiet is one of the model; else each session has it, and behind it nothing changes.
+use Rattle.std.proofs.Common.{◌∙◌, ap, length, refl}
 use Rattle.net_base.specs.declared.plan.Plan.{Plan}
-use Rattle.peer_dialogue.proofs.SpeakerLemmas.{agrees_before}
-use Rattle.provider_edge.proofs.AtWorkLemmas.{works_both}
-use Rattle.provider_edge.proofs.MessageLemmas.{tick_next}
-use Rattle.provider_edge.proofs.TickLemmas.{all_passed_by}
-use Rattle.provider_edge.specs.Lists.{EdgeLists}
+use Rattle.edge_model.specs.State.{EdgeState}
+use Rattle.edge_model.specs.Tick.{ticks_sessions}
+use Rattle.peer_dialogue.specs.Peering.{at_edge}
 use Rattle.provider_edge.specs.Lists.{seen}
 use Rattle.provider_edge.proofs.edge.Edge.tick_sessions.Goals as goal
 
-pub returns-then-is_idle-clause-step : goal.returns-then-is_idle-clause-step
-returns-then-is_idle-clause-step g c = λ told agrees.
-    all_passed_by told (length c.args.self.now.plan.edges) 0 (length c.args.self.now.plan.edges) (seen c.args.self.now) (g.L.Link.calls c.args.work.now.link.now) c.args.work.now.effects.now.list
-    (omega arith) (c.if-is_idle.ensures.absent refl) (c.if-is_idle.ensures.untold refl)
+pub returns-then-pass_quietly-clause-step : goal.returns-then-pass_quietly-clause-step
+returns-then-pass_quietly-clause-step g c = λ told agrees. c.if-pass_quietly.ensures.step refl told (g.L.Link.calls c.args.work.now.link.now) c.args.work.now.effects.now.list
 
-pub loop-place-preserved : goal.loop-place-preserved
-loop-place-preserved g c = record {
-  goes = works_both g.L.Link.calls _ _ _ _ _ _ c.loop-place.invariant.goes c.in_ok-tick_session.ensures.goes;
-  step = λ told agrees. tick_next told c.loop-place.place (length c.args.self.now.plan.edges) (record { 0 = c.loop-place.place }) _ _ _
-      (subst (λ (n : EdgeLists). c.loop-place.place < length n.plan.edges) c.self.view_is
-      (omega (arith, c.loop-place-test.true, c.len-place-end.ensures, ap (λ (p : Plan). length p.edges) c.deref.ensures))) refl
-      (c.loop-place.invariant.step told (agrees_before told _ _ c.in_ok-tick_session.ensures.goes.on.calls agrees)) (c.in_ok-tick_session.ensures.step told agrees);
-}
-
-pub returns-in_err-tick_session-clause-goes : goal.returns-in_err-tick_session-clause-goes
-returns-in_err-tick_session-clause-goes g c = works_both g.L.Link.calls _ _ _ _ _ _ c.loop-place.invariant.goes c.tick_session.ensures.goes
+pub returns-clause-step : goal.returns-clause-step
+returns-clause-step g c = λ told agrees.
+    ap (λ (e : EdgeState). at_edge e (g.L.Link.calls c.tick_each.new.work.link.now) c.tick_each.new.work.effects.now.list) c.look_ahead.ensures.step
+    ∙ (c.in_ok-tick_each.ensures.step told agrees
+    ∙ (ap (λ (p : Plan). ticks_sessions told 0 (length p.edges) (at_edge (seen c.pass_quietly.new.self) (g.L.Link.calls c.args.work.now.link.now) c.args.work.now.effects.now.list)) c.pass_quietly.ensures.keeps.plan
+    ∙ ap (λ (e : EdgeState). ticks_sessions told 0 (length c.args.self.now.plan.edges) (at_edge e (g.L.Link.calls c.args.work.now.link.now) c.args.work.now.effects.now.list))
+    (c.if-pass_quietly.ensures.stays refl)))

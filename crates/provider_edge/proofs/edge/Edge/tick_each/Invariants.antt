@@ -2,7 +2,7 @@ use Rattle.std.proofs.Common.{◌≡◌, ◌-◌, length}
 use Rattle.pw_messages.specs.LinkAnswers.{Agrees, Answers}
 use Rattle.edge_model.specs.Tick.{ticks_sessions}
 use Rattle.provider_edge.specs.AtWork.{Works, at_work}
-use Rattle.provider_edge.proofs.edge.Edge.tick_sessions.Given as goal
+use Rattle.provider_edge.proofs.edge.Edge.tick_each.Given as goal
 
 abbrev pub invariant-loop-place : goal.invariant-loop-place
 invariant-loop-place g l = record {
