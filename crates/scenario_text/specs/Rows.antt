@@ -1,5 +1,5 @@
 -- The rows of the document's tables: each key with its kind, its range and its default.
-use Rattle.std.specs.Prelude.{◌+◌, codes, suc, ℕ, Bool, true, false, List, [], ◌∷◌, Option, None, Some, Result, Ok}
+use Rattle.std.specs.Prelude.{◌+◌, codes, suc, ℕ, true, false, List, [], ◌∷◌, Option, None, Some, Result, Ok}
 use Rattle.toml.specs.Data.{Data, Items, no_items, item, Members, as_table}
 use Rattle.net_base.specs.declared.plan.place.Place.{Place}
 use Rattle.net_base.specs.declared.plan.edge_plan.EdgePlan.{EdgePlan}

@@ -10,6 +10,7 @@ use crate::arrays::{Arrays, document_arrays, take_events};
 use crate::circuit_row::CircuitRow;
 use crate::group_row::GroupRow;
 use crate::plan::plan;
+use crate::port_rows::PortRows;
 use crate::rows::rows;
 use crate::wire_row::WireRow;
 use command_text::{Command, NameLists, ScenarioFault, read_commands};
@@ -54,14 +55,11 @@ fn arrays_plan(alloc: Global, arrays: &Arrays<'_>) -> Result<Plan, ScenarioFault
     let groups = rows::<GroupRow>(alloc, version, TableKind::Group, arrays.groups)?;
     let circuit_rows = rows::<CircuitRow>(alloc, version, TableKind::Circuit, arrays.circuits)?;
     let wire_rows = rows::<WireRow>(alloc, version, TableKind::Wire, arrays.wires)?;
-    plan(
-        alloc,
-        edges,
-        services,
-        groups.as_slice(),
-        circuit_rows.as_slice(),
-        wire_rows.as_slice(),
-    )
+    let rows = PortRows {
+        circuits: circuit_rows.as_slice(),
+        wires: wire_rows.as_slice(),
+    };
+    plan(alloc, edges, services, groups.as_slice(), rows)
 }
 
 // The scenario of a table. Once the plan is made of its arrays, the events alone are kept of it.

@@ -21,6 +21,7 @@ mod names;
 mod offer_row;
 mod offers;
 mod plan;
+mod port_rows;
 mod row;
 mod rows;
 mod scenario;

@@ -5,14 +5,13 @@ ghost use Rattle.command_text.specs.{Names.{are_distinct}, Reading.{Gives}};
 ghost use Rattle.scenario_text.specs.References.{group_names, passed, sound, sound_with, placed_rows, plan_of};
 ghost use Rattle.scenario_text.specs.Top.{most_edges, most_services, most_groups, most_circuits, most_wires};
 
-use crate::circuit_row::CircuitRow;
 use crate::circuits::circuits;
 use crate::group_row::GroupRow;
 use crate::group_rows::GroupRows;
 use crate::groups::check_groups;
 use crate::names::{names_of_groups, names_of_plan};
+use crate::port_rows::PortRows;
 use crate::service_rows::ServiceRows;
-use crate::wire_row::WireRow;
 use crate::wires::wires;
 use command_text::{NameIndex, ScenarioFault, names_of_edges, names_of_services};
 use net_base::{CircuitPlan, EdgePlan, List, NoMemory, Plan, ServicePlan, WirePlan};
@@ -67,19 +66,18 @@ fn placed_rows(
     edges: &NameIndex<'_>,
     services: ServiceRows<'_, '_>,
     groups: GroupRows<'_, '_>,
-    circuit_rows: &[CircuitRow],
-    wire_rows: &[WireRow],
+    rows: PortRows<'_>,
 ) -> Result<PlacedRows, ScenarioFault>
-    requires few_circuits { length circuit_rows.now ≤ most_circuits }
-    requires few_wires { length wire_rows.now ≤ most_wires }
+    requires few_circuits { length rows.circuits.now ≤ most_circuits }
+    requires few_wires { length rows.wires.now ≤ most_wires }
     requires same { services.index.now ≡ service_names services.rows.now }
     requires named { groups.index.now ≡ group_names groups.rows.now }
-    ensures exact { Gives result (placed_rows edges.now services.entry.rows.now groups.entry.rows.now circuit_rows.now wire_rows.now) }
-    ensures circuits { IfOk result (λ rows. length rows.circuits ≡ length circuit_rows.now) }
-    ensures wires { IfOk result (λ rows. length rows.wires ≡ length wire_rows.now) }
+    ensures exact { Gives result (placed_rows edges.now services.entry.rows.now groups.entry.rows.now rows.entry.circuits.now rows.entry.wires.now) }
+    ensures circuits { IfOk result (λ placed. length placed.circuits ≡ length rows.entry.circuits.now) }
+    ensures wires { IfOk result (λ placed. length placed.wires ≡ length rows.entry.wires.now) }
 {
-    let circuits = circuits(alloc, edges, services.index, circuit_rows)?;
-    match wires(alloc, edges, services, groups, wire_rows) {
+    let circuits = circuits(alloc, edges, services.index, rows.circuits)?;
+    match wires(alloc, edges, services, groups, rows.wires) {
         Ok(wires) => Ok(PlacedRows { circuits, wires }),
         Err(fault) => Err(fault),
     }
@@ -91,17 +89,16 @@ fn rows_over(
     edges: &[EdgePlan],
     services: &[ServicePlan],
     groups: GroupRows<'_, '_>,
-    circuit_rows: &[CircuitRow],
-    wire_rows: &[WireRow],
+    rows: PortRows<'_>,
 ) -> Result<PlacedRows, ScenarioFault>
     requires few_edges { length edges.now ≤ most_edges }
     requires few_services { length services.now ≤ most_services }
-    requires few_circuits { length circuit_rows.now ≤ most_circuits }
-    requires few_wires { length wire_rows.now ≤ most_wires }
+    requires few_circuits { length rows.circuits.now ≤ most_circuits }
+    requires few_wires { length rows.wires.now ≤ most_wires }
     requires named { groups.index.now ≡ group_names groups.rows.now }
-    ensures exact { Gives result (placed_rows (edge_names edges.now) services.now groups.entry.rows.now circuit_rows.now wire_rows.now) }
-    ensures circuits { IfOk result (λ rows. length rows.circuits ≡ length circuit_rows.now) }
-    ensures wires { IfOk result (λ rows. length rows.wires ≡ length wire_rows.now) }
+    ensures exact { Gives result (placed_rows (edge_names edges.now) services.now groups.entry.rows.now rows.entry.circuits.now rows.entry.wires.now) }
+    ensures circuits { IfOk result (λ placed. length placed.circuits ≡ length rows.entry.circuits.now) }
+    ensures wires { IfOk result (λ placed. length placed.wires ≡ length rows.entry.wires.now) }
 {
     let edge_names = names_of_edges(alloc, edges)?;
     let service_names = names_of_services(alloc, services)?;
@@ -112,10 +109,10 @@ fn rows_over(
                     index: &index,
                     rows: services,
                 };
-                let rows = placed_rows(alloc, &edges, services, groups, circuit_rows, wire_rows);
+                let placed = placed_rows(alloc, &edges, services, groups, rows);
                 drop(index);
                 drop(edges);
-                rows
+                placed
             }
             Err(NoMemory) => {
                 drop(edges);
@@ -147,33 +144,24 @@ fn plan_over(
     edges: List<EdgePlan>,
     services: List<ServicePlan>,
     groups: GroupRows<'_, '_>,
-    circuit_rows: &[CircuitRow],
-    wire_rows: &[WireRow],
+    rows: PortRows<'_>,
 ) -> Result<Plan, ScenarioFault>
     requires few_edges { length edges ≤ most_edges }
     requires few_services { length services ≤ most_services }
     requires few_groups { length groups.rows.now ≤ most_groups }
-    requires few_circuits { length circuit_rows.now ≤ most_circuits }
-    requires few_wires { length wire_rows.now ≤ most_wires }
+    requires few_circuits { length rows.circuits.now ≤ most_circuits }
+    requires few_wires { length rows.wires.now ≤ most_wires }
     requires named { groups.index.now ≡ group_names groups.rows.now }
-    ensures exact { Gives result (plan_of edges services groups.entry.rows.now circuit_rows.now wire_rows.now) }
+    ensures exact { Gives result (plan_of edges services groups.entry.rows.now rows.entry.circuits.now rows.entry.wires.now) }
     ensures checked { IfOk result IsChecked }
 {
-    let rows = rows_over(
-        alloc,
-        edges.as_slice(),
-        services.as_slice(),
-        groups,
-        circuit_rows,
-        wire_rows,
-    );
-    match rows {
-        Ok(rows) => {
+    match rows_over(alloc, edges.as_slice(), services.as_slice(), groups, rows) {
+        Ok(placed) => {
             let plan = Plan {
                 edges,
                 services,
-                circuits: rows.circuits,
-                wires: rows.wires,
+                circuits: placed.circuits,
+                wires: placed.wires,
             };
             match check_with(alloc, groups, &plan) {
                 Ok(()) => Ok(plan),
@@ -190,15 +178,14 @@ pub fn plan(
     edges: List<EdgePlan>,
     services: List<ServicePlan>,
     groups: &[GroupRow],
-    circuit_rows: &[CircuitRow],
-    wire_rows: &[WireRow],
+    rows: PortRows<'_>,
 ) -> Result<Plan, ScenarioFault>
     requires few_edges { length edges ≤ most_edges }
     requires few_services { length services ≤ most_services }
     requires few_groups { length groups.now ≤ most_groups }
-    requires few_circuits { length circuit_rows.now ≤ most_circuits }
-    requires few_wires { length wire_rows.now ≤ most_wires }
-    ensures exact { Gives result (plan_of edges services groups.now circuit_rows.now wire_rows.now) }
+    requires few_circuits { length rows.circuits.now ≤ most_circuits }
+    requires few_wires { length rows.wires.now ≤ most_wires }
+    ensures exact { Gives result (plan_of edges services groups.now rows.entry.circuits.now rows.entry.wires.now) }
     ensures checked { IfOk result IsChecked }
 {
     let names = names_of_groups(alloc, groups)?;
@@ -208,7 +195,7 @@ pub fn plan(
                 index: &index,
                 rows: groups,
             };
-            let plan = plan_over(alloc, edges, services, groups, circuit_rows, wire_rows);
+            let plan = plan_over(alloc, edges, services, groups, rows);
             drop(index);
             plan
         }
