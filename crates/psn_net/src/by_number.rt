@@ -1,8 +1,8 @@
 //! Packets under way by number.
-ghost use Rattle.std.specs.Prelude.{◌≡◌, ◌<◌, ◌≤◌, ◌+◌, ◌^◌, ◌↔◌, ℕ, [], true, cond, IsTrue, Some, None, length, option_copied, slice_get, IfSome, IsSome, OnErr, OnOk};
+ghost use Rattle.std.specs.Prelude.{◌≡◌, ◌<◌, ◌≤◌, ◌+◌, ◌-◌, ◌*◌, ◌^◌, ◌↔◌, ℕ, [], true, cond, IsTrue, Some, None, length, option_copied, slice_get, IfSome, IsSome, OnErr, OnOk};
 ghost use Rattle.std.specs.{BTreeMap.{insert_entry, is_at}, List.Sorted.{IsStrictlySortedBy}, Map.{keys_of, remove_entry}};
 ghost use Rattle.std.specs.Ordering.{nat_cmp};
-ghost use Rattle.psn_net.specs.{ByNumber.{placed_from}, Packets.{kept_under}};
+ghost use Rattle.psn_net.specs.{ByNumber.{holes_in, placed_from}, Packets.{kept_under}};
 
 use crate::carried::Carried;
 use crate::ring::Ring;
@@ -143,12 +143,14 @@ fn is_placed(start: u64, places: usize, number: u64) -> bool
     start <= number && number - start < places as u64
 }
 
-// The number of the first place, where the next packet is to have a place in the ring.
+// The number of the first place, where the next packet is to have a place in the ring: that one has fewer places than four times what is in
+// it and 17.
 fn start_for(start: u64, ring: &Ring, is_alone: bool, number: u64) -> Option<u64>
     requires { start + length ring.now ≤ number }
     ensures next { IfSome result (λ start. start + length ring.now ≡ number) }
     ensures same { IfSome result (λ now. placed_from now ring.now ≡ placed_from start ring.now) }
     ensures alone { IfSome result (λ start. is_alone ≡ true) }
+    ensures few { IfSome result (λ start. length ring.now < 4 * (length ring.now - holes_in ring.now + 17)) }
 {
     if !is_alone {
         return None;
