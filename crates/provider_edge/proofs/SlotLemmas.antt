@@ -15,7 +15,7 @@ use Rattle.pw_signalling.specs.End.{EndState}
 use Rattle.edge_model.specs.declared.end_place.EndPlace.{EndPlace}
 use Rattle.edge_model.specs.EndPlaces.{end_places}
 use Rattle.edge_model.specs.Mend.{is_new_choice}
-use Rattle.edge_model.specs.Role.{end_role_of, is_chosen_wire, role_at, role_in}
+use Rattle.edge_model.specs.Role.{end_role_of, is_chosen_wire, role_in}
 use Rattle.edge_model.specs.State.{end_at}
 use Rattle.pw_ends.specs.Ends.{end_in, place_of}
 use Rattle.pw_ends.proofs.IndexLemmas.{named_if, none_at}
@@ -32,15 +32,14 @@ pub mesh_role : (row : WirePlan) (me : EdgeId) (chosen : Bool) → row.class ≡
 mesh_role row me chosen mesh =
     sym (ap (λ (k : Class). cond (is_mesh_class k) role.Mesh (cond (is_last me.0 row.path) role.Core (cond chosen role.Chosen role.NotChosen))) mesh)
 
-pub role_read : (c now : EdgeLists) (slot : ℕ) (place : EndPlace) (row : WirePlan) (chosen : Bool) (role : EndRole) → c ≡ now → place ≡ place_of now.ends slot → wire_row c.plan place.wire ≡ Some row
-    → chosen ≡ is_chosen_wire place.wire ((seen now).chosen row.service.0) → role ≡ end_role_of row c.me chosen → role ≡ role_at now.plan (seen now) (place_of now.ends slot)
+pub role_read : (c now : EdgeLists) (wire : WireId) (row : WirePlan) (chosen : Bool) (role : EndRole) → c ≡ now → wire_row c.plan wire ≡ Some row
+    → chosen ≡ is_chosen_wire wire ((seen now).chosen row.service.0) → role ≡ end_role_of row c.me chosen → role ≡ role_in (wire_row now.plan wire) (seen now).me (seen now).chosen wire
 unfolding seen
-role_read c now slot place row chosen role same at found chooses is =
+role_read c now wire row chosen role same found chooses is =
     is
     ∙ (ap (λ (b : Bool). end_role_of row c.me b) chooses
-    ∙ (ap (λ (n : EdgeLists). end_role_of row n.me (is_chosen_wire place.wire ((seen now).chosen row.service.0))) same
-    ∙ (ap (λ (r : Option WirePlan). role_in r now.me (seen now).chosen place.wire) (sym (ap (λ (n : EdgeLists). wire_row n.plan place.wire) (sym same) ∙ found))
-    ∙ ap (λ (p : EndPlace). role_in (wire_row now.plan p.wire) now.me (seen now).chosen p.wire) at)))
+    ∙ (ap (λ (n : EdgeLists). end_role_of row n.me (is_chosen_wire wire ((seen now).chosen row.service.0))) same
+    ∙ ap (λ (r : Option WirePlan). role_in r now.me (seen now).chosen wire) (sym (ap (λ (n : EdgeLists). wire_row n.plan wire) (sym same) ∙ found))))
 
 -- ---- a spoke that was chosen anew
 

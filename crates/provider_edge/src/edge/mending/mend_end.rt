@@ -3,7 +3,7 @@ ghost use Rattle.std.specs.Prelude.{◌≡◌, ◌<◌, List, length, None, true
 ghost use Rattle.net_base.specs.{declared.outside.link_call.LinkCall.{LinkCall}, plan.Places.{wire_row}};
 ghost use Rattle.edge_model.specs.declared.end_place.EndPlace.{EndPlace};
 ghost use Rattle.edge_model.specs.Mend.{advertises_wish, forgetting_wire, is_new_choice, mends_choice, mends_end, mends_status, offer_stands, tells_down, wish};
-ghost use Rattle.edge_model.specs.{Role.{down_at, is_chosen_wire, role_at}, State.{with_told_down}};
+ghost use Rattle.edge_model.specs.{Role.{down_at, is_chosen_wire, role_in}, State.{with_told_down}};
 ghost use Rattle.pw_signalling.specs.AnyEnd.{end_of};
 ghost use Rattle.pw_ends.specs.Ends.{HasKind, Holds, IsIdle, end_in, place_of};
 ghost use Rattle.provider_edge.specs.{Mending.{forgotten_down, mended_down}, AtWork.{SaysBy, Works}, Lists.{Keeps, seen}};
@@ -94,8 +94,9 @@ impl Edge {
         requires { slot < length self.now.ends.places }
         ensures { result ≡ offer_stands (place_of self.now.ends slot) content.now (wish self.now.plan (seen self.now) (place_of self.now.ends slot)) }
     {
-        if self.place_at(slot).terminal {
-            return self.has_wish(slot);
+        let place = self.place_at(slot);
+        if place.terminal {
+            return self.has_wish(&place, slot);
         }
         match self.wish(slot) {
             Some(wished) => is_same_but_status(content, &wished),
@@ -261,13 +262,11 @@ impl Edge {
         self.ends.end(slot)
     }
 
-    // What an end is to its service.
+    // What the edge's end of a wire is to its service.
     #[tactic(auto, unfolding(crate::specs::Lists::seen))]
-    pub(crate) fn role_of(&self, slot: usize) -> EndRole
-        requires { slot < length self.now.ends.places }
-        ensures { result ≡ role_at self.now.plan (seen self.now) (place_of self.now.ends slot) }
+    pub(crate) fn role_of(&self, wire: WireId) -> EndRole
+        ensures { result ≡ role_in (wire_row self.now.plan wire) (seen self.now).me (seen self.now).chosen wire }
     {
-        let wire = self.place_at(slot).wire;
         match self.plan.wires.get(wire.0 as usize) {
             Some(row) => match row.class {
                 Class::Mesh => EndRole::Mesh,
@@ -298,7 +297,7 @@ impl Edge {
             return Some(Down::NoLocal);
         }
         let place = self.place_at(slot);
-        let role = self.role_of(slot);
+        let role = self.role_of(place.wire);
         self.end_in(slot).why_down(role, self.bits_of(place.wire))
     }
 }

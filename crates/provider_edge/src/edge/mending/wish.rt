@@ -36,17 +36,18 @@ impl Edge {
         }
     }
 
-    // Whether a terminal end should tell anything. One without failure bits tells its offer, where its wire is on and the session with
-    // its peer is up.
-    pub(crate) fn has_wish(&self, slot: usize) -> bool
+    // Whether a terminal end at a place should tell anything. One without failure bits tells its offer, where its wire is on and the
+    // session with its peer is up.
+    pub(crate) fn has_wish(&self, place: &EndPlace, slot: usize) -> bool
         requires slot { slot < length self.now.ends.places }
-        requires terminal { (place_of self.now.ends slot).terminal ≡ true }
-        ensures { result ≡ is_some (wish self.now.plan (seen self.now) (place_of self.now.ends slot)) }
+        requires place { place.now ≡ place_of self.now.ends slot }
+        requires within { place.now.wire.0 < length self.now.plan.wires }
+        requires terminal { place.now.terminal ≡ true }
+        ensures { result ≡ is_some (wish self.now.plan (seen self.now) place.now) }
     {
-        let place = self.place_at(slot);
         match self.plan.wires.get(place.wire.0 as usize) {
             Some(row) => {
-                self.may_tell(&place)
+                self.may_tell(place)
                     && (self.bits_of(place.wire) == 0 || self.terminal_wish(slot, row).is_some())
             }
             None => false,
@@ -107,7 +108,7 @@ impl Edge {
     {
         let place = self.place_at(slot);
         if place.terminal {
-            status_to_tell(self.role_of(slot), self.bits_of(place.wire))
+            status_to_tell(self.role_of(place.wire), self.bits_of(place.wire))
         } else {
             passed_status(self.held_beyond(slot))
         }
