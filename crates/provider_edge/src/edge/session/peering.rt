@@ -101,11 +101,11 @@ impl Edge {
             return Ok(());
         }
         let marks = self.marks;
-        let was_up = self.is_up(peer);
         let Some(peering) = self.take_peering(peer) else {
             self.clear_ends(peer);
             return Ok(());
         };
+        let was_up = peering.is_up();
         let left = peering.happens(peer, event, work)?;
         let stands = stands_as(was_up, &left);
         self.put_peering(peer, left);
@@ -130,10 +130,10 @@ impl Edge {
         ensures step { IfOk result (SaysBy L.calls self.old work.old self.new work.new (λ told. says told peer (numbered message.now))) }
     {
         let marks = self.marks;
-        let was_up = self.is_up(peer);
         let Some(peering) = self.take_peering(peer) else {
             return Ok(false);
         };
+        let was_up = peering.is_up();
         let left = peering.say(peer, message, work)?;
         let failed = left.is_none();
         let stands = stands_as(was_up, &left);

@@ -1,6 +1,7 @@
 -- What is left of a session is put back, and the ends beside the peer are cleared; a refusal has left none. The marks are those of before
 -- where the session stands as it did, and else have those ends too.
 use Rattle.std.proofs.Common.{◌∙◌, None, Some, [], ap, refl, sym}
+use Rattle.edge_model.specs.Hear.{was_up}
 use Rattle.edge_model.specs.Session.{happens}
 use Rattle.edge_model.specs.State.{EdgeState}
 use Rattle.peer_dialogue.specs.Event.{event_of}
@@ -69,5 +70,5 @@ pub keep_marks-requires-clause-tidy : goal.keep_marks-requires-clause-tidy
 keep_marks-requires-clause-tidy g c =
     let keeps : Keeps c.args.self.now c.clear_ends-2.new.self = keeps_both _ _ _ c.take_peering.ensures.keeps (keeps_both _ _ _ c.put_peering.ensures.keeps c.clear_ends-2.ensures.keeps) in
     left_kept (the_view c.self.inside) c.args.self.now c.take_peering.new.self c.put_peering.new.self c.clear_ends-2.new.self c.clear_ends-2.new.self c.args.peer c.take_peering.result c.in_ok-left.left c.is_up-was_up.result c.stands_as-stands.result c.marks_after-marks.result
-    c.self.view_is c.self.invariant keeps keeps c.is_up-was_up.ensures c.take_peering.ensures.taken c.take_peering.ensures.step c.put_peering.ensures.step c.clear_ends-2.ensures.step c.stands_as-stands.ensures
+    c.self.view_is c.self.invariant keeps keeps (c.is_up-was_up.ensures ∙ ap was_up (sym c.in-Some.is ∙ c.take_peering.ensures.taken)) c.take_peering.ensures.taken c.take_peering.ensures.step c.put_peering.ensures.step c.clear_ends-2.ensures.step c.stands_as-stands.ensures
     c.marks_after-marks.ensures.stood c.marks_after-marks.ensures.left

@@ -1,6 +1,7 @@
 -- Without a session nothing is put; what is left of one is put back, and the ends beside the peer are cleared. The marks are those of
 -- before where the session stands as it did, and else have those ends too.
-use Rattle.std.proofs.Common.{◌∙◌, Bool, Some, ap}
+use Rattle.std.proofs.Common.{◌∙◌, Bool, Some, ap, sym}
+use Rattle.edge_model.specs.Hear.{was_up}
 use Rattle.edge_model.specs.State.{EdgeState}
 use Rattle.edge_model.specs.Work.{Work}
 use Rattle.peer_dialogue.specs.Peering.{at_edge, had_spoken, is_over, put_message}
@@ -47,5 +48,5 @@ pub keep_marks-requires-clause-tidy : goal.keep_marks-requires-clause-tidy
 keep_marks-requires-clause-tidy g c =
     let keeps : Keeps c.args.self.now c.clear_ends.new.self = keeps_both _ _ _ c.take_peering.ensures.keeps (keeps_both _ _ _ c.put_peering.ensures.keeps c.clear_ends.ensures.keeps) in
     left_kept (the_view c.self.inside) c.args.self.now c.take_peering.new.self c.put_peering.new.self c.clear_ends.new.self c.clear_ends.new.self c.args.peer c.take_peering.result c.in_ok-left.left c.is_up-was_up.result c.stands_as-stands.result c.marks_after-marks.result
-    c.self.view_is c.self.invariant keeps keeps c.is_up-was_up.ensures c.take_peering.ensures.taken c.take_peering.ensures.step c.put_peering.ensures.step c.clear_ends.ensures.step c.stands_as-stands.ensures
+    c.self.view_is c.self.invariant keeps keeps (c.is_up-was_up.ensures ∙ ap was_up (sym c.in-Some.is ∙ c.take_peering.ensures.taken)) c.take_peering.ensures.taken c.take_peering.ensures.step c.put_peering.ensures.step c.clear_ends.ensures.step c.stands_as-stands.ensures
     c.marks_after-marks.ensures.stood c.marks_after-marks.ensures.left
