@@ -1,5 +1,6 @@
 pub mod ChosenLemmas
 pub mod EventLemmas
+pub mod Examples
 pub mod FallLemmas
 pub mod HeardLemmas
 pub mod HearLemmas
