@@ -18,22 +18,37 @@ use pw_tlvs::{PwFec, PwStatus};
 use status_exchange::{becomes, is_told};
 use std::alloc::Global;
 
+// What a Notification tells that may be of a pseudowire.
+#[derive(Clone, Copy)]
+struct Notice {
+    code: u32,
+    status: Option<PwStatus>,
+    fec: Option<PwFec>,
+}
+
+// The status of a wire of the plan.
+#[derive(Clone, Copy)]
+struct WireStatus {
+    wire: usize,
+    status: PwStatus,
+}
+
 impl IndepEdge {
     // The status of a wire with a peer is heard.
     #[tactic(auto, using(crate::proofs::ChangedLemmas::only_learned, crate::proofs::ChangedLemmas::only_same))]
-    pub(crate) fn hear_status<L: Link>(
+    fn hear_status<L: Link>(
         &mut self,
         alloc: Global,
         peer: EdgeId,
-        wire: usize,
-        status: PwStatus,
+        heard: WireStatus,
         link: &mut L,
     ) -> Result<(), IndepStop>
-        requires wire { wire < length self.old.plan.wires }
+        requires wire { heard.wire < length self.old.plan.wires }
         requires within { peer.0 < length self.old.plan.edges }
-        ensures speaks { Speaks self.old self.new (L.calls link.old) (L.calls link.new) result (λ told. independent_hears_status self.old.plan told self.old.me.0 peer wire status (independent_seen self.old) (L.calls link.old)) }
-        ensures changed { ChangesOnly peer.0 (learns wire status (independent_seen self.old)) (independent_seen self.new) }
+        ensures speaks { Speaks self.old self.new (L.calls link.old) (L.calls link.new) result (λ told. independent_hears_status self.old.plan told self.old.me.0 peer heard.wire heard.status (independent_seen self.old) (L.calls link.old)) }
+        ensures changed { ChangesOnly peer.0 (learns heard.wire heard.status (independent_seen self.old)) (independent_seen self.new) }
     {
+        let WireStatus { wire, status } = heard;
         let wish = self.wish(wire);
         self.set_remote(wire, Some(status));
         self.set_wish(wire, becomes(status, wish));
@@ -50,15 +65,14 @@ impl IndepEdge {
         &mut self,
         alloc: Global,
         peer: EdgeId,
-        code: u32,
-        status: Option<PwStatus>,
-        fec: Option<PwFec>,
+        notice: Notice,
         link: &mut L,
     ) -> Result<(), IndepStop>
         requires within { peer.0 < length self.old.plan.edges }
-        ensures speaks { Speaks self.old self.new (L.calls link.old) (L.calls link.new) result (λ told. hears_notice self.old.plan told self.old.me.0 peer code status fec (independent_seen self.old) (L.calls link.old)) }
-        ensures changed { ChangesOnly peer.0 (learns_notice self.old.plan self.old.me.0 peer code status fec (independent_seen self.old)) (independent_seen self.new) }
+        ensures speaks { Speaks self.old self.new (L.calls link.old) (L.calls link.new) result (λ told. hears_notice self.old.plan told self.old.me.0 peer notice.code notice.status notice.fec (independent_seen self.old) (L.calls link.old)) }
+        ensures changed { ChangesOnly peer.0 (learns_notice self.old.plan self.old.me.0 peer notice.code notice.status notice.fec (independent_seen self.old)) (independent_seen self.new) }
     {
+        let Notice { code, status, fec } = notice;
         let Some(status) = status else {
             return Ok(());
         };
@@ -69,7 +83,7 @@ impl IndepEdge {
             return Ok(());
         }
         match self.named(peer, fec.pw_id) {
-            Some(wire) => self.hear_status(alloc, peer, wire, status, link),
+            Some(wire) => self.hear_status(alloc, peer, WireStatus { wire, status }, link),
             None => Ok(()),
         }
     }
@@ -93,7 +107,14 @@ impl IndepEdge {
                 pw_status,
                 fec,
                 ..
-            } => self.hear_notice(alloc, peer, status.code, *pw_status, *fec, link),
+            } => {
+                let notice = Notice {
+                    code: status.code,
+                    status: *pw_status,
+                    fec: *fec,
+                };
+                self.hear_notice(alloc, peer, notice, link)
+            }
             _ => Ok(()),
         }
     }

@@ -6,7 +6,7 @@ ghost use Rattle.independent_model.specs.{Tell.{octets_on, tells, tells_from}, W
 ghost use Rattle.independent_model.specs.Work.{CallsGoOn, IsPutOnLink, NeverRefused};
 ghost use Rattle.independent_mode.specs.{Changed.{ChangesOnly}, Lists.{KeepsIndependent, independent_seen}, Speaking.{Speaks}};
 
-use crate::notification::notification_octets;
+use crate::notification::{Sender, notification_octets};
 use crate::{IndepEdge, IndepStop};
 use net_base::{EdgeId, Link, LinkStop, NoMemory, Octets};
 use std::alloc::Global;
@@ -17,9 +17,12 @@ impl IndepEdge {
         requires { wire < length self.now.plan.wires }
         ensures { IfOk result (λ octets. (row : WirePlan) → slice_get self.now.plan.wires wire ≡ Some row → octets ≡ octets_on self.now.plan self.now.me.0 row ((independent_seen self.now).local wire) id) }
     {
-        let router = self.plan.edges.as_slice()[self.me.0 as usize].address;
+        let sender = Sender {
+            me: self.me,
+            router: self.plan.edges.as_slice()[self.me.0 as usize].address,
+        };
         let row = &self.plan.wires.as_slice()[wire];
-        notification_octets(alloc, row, self.me, router, self.wish(wire), id)
+        notification_octets(alloc, row, sender, self.wish(wire), id)
     }
 
     // The next message to a peer has the next number.
