@@ -59,11 +59,11 @@ number_said low high n least most h =
     rw (some_decimal n h, digits_value-decimal numerals n h, le-leb low n least, le-leb n high most) refl
 
 -- the test of the numbers below a bound, which computes
-all_below : (ℕ → Bool) → ℕ → Bool
+unfoldable pub all_below : (ℕ → Bool) → ℕ → Bool
 all_below test zero = true
 all_below test (suc n) = test n && all_below test n
 
-below_at : (test : ℕ → Bool) (n k : ℕ) → all_below test n ≡ true → k < n → test k ≡ true
+pub below_at : (test : ℕ → Bool) (n k : ℕ) → all_below test n ≡ true → k < n → test k ≡ true
 unfolding all_below
 below_at test zero k e lt = absurd (omega arith)
 below_at test (suc n) k e lt =

@@ -1,3 +1,4 @@
+pub mod Choices
 pub mod EventWords
 pub mod Report
 pub mod SentWords

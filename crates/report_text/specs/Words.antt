@@ -1,22 +1,19 @@
 -- The words of a report: names, numbers, octets and events.
-use Rattle.std.specs.Prelude.{◌++◌, ℕ, codes, Bool, List, [], ◌∷◌, Option, Some, None, slice_get, option_map}
+use Rattle.std.specs.Prelude.{ℕ, codes, Bool, List, [], ◌∷◌, Option, Some, None, slice_get, option_map}
 use Rattle.std.specs.Fmt.{decimal}
 use Rattle.net_base.specs.declared.trace.arrival.Arrival.{Arrival}
 use Rattle.net_base.specs.declared.trace.arrival.Arrival.TheVariants as arrival
 use Rattle.net_base.specs.declared.trace.down.Down.{Down}
-use Rattle.net_base.specs.declared.trace.down.Down.TheVariants as down
 use Rattle.net_base.specs.declared.trace.drop_cause.DropCause.{DropCause}
-use Rattle.net_base.specs.declared.trace.drop_cause.DropCause.TheVariants as cause
 use Rattle.net_base.specs.declared.trace.event.Event.{Event}
 use Rattle.net_base.specs.declared.trace.event.Event.TheVariants as event
 use Rattle.net_base.specs.declared.plan.places.CircuitId.{CircuitId}
 use Rattle.net_base.specs.declared.plan.places.EdgeId.{EdgeId}
 use Rattle.net_base.specs.declared.plan.places.WireId.{WireId}
 use Rattle.net_base.specs.declared.plan.Plan.{Plan}
-use Rattle.net_base.specs.declared.trace.state_name.Reason.{Reason}
-use Rattle.net_base.specs.declared.trace.state_name.Reason.TheVariants as reason
 use Rattle.net_base.specs.declared.trace.state_name.StateName.{StateName}
-use Rattle.net_base.specs.declared.trace.state_name.StateName.TheVariants as state
+use Rattle.report_text.specs.Choices.{cause_place, choice_word, end_place, state_place, switch_place}
+use Rattle.report_text.specs.declared.choice.Choice.TheVariants.{Switch, Cause, End, State}
 use Rattle.text_pieces.specs.Pieces.{hex}
 
 -- a name, or the empty text where there is none
@@ -44,68 +41,19 @@ arrival_name plan arrival.Own = codes "-"
 
 -- whether something is put on or off
 abbrev pub switch_name : Bool → List ℕ
-switch_name Bool.true = codes "on"
-switch_name Bool.false = codes "off"
+switch_name on = choice_word Switch (switch_place on)
 
 -- why a frame or a packet was dropped
 abbrev pub cause_name : DropCause → List ℕ
-cause_name cause.Short = codes "Short"
-cause_name cause.Long = codes "Long"
-cause_name cause.WrongTag = codes "WrongTag"
-cause_name cause.NoTag = codes "NoTag"
-cause_name cause.BadNibble = codes "BadNibble"
-cause_name cause.NotBottom = codes "NotBottom"
-cause_name cause.Ttl = codes "Ttl"
-cause_name cause.NoLabel = codes "NoLabel"
-cause_name cause.Down = codes "Down"
-cause_name cause.NoBinding = codes "NoBinding"
-cause_name cause.Expired = codes "Expired"
-cause_name cause.Version = codes "Version"
-cause_name cause.Channel = codes "Channel"
-cause_name cause.Ip = codes "Ip"
-cause_name cause.Checksum = codes "Checksum"
-cause_name cause.Icmp = codes "Icmp"
-cause_name cause.NotOffered = codes "NotOffered"
-cause_name cause.LinkFault = codes "LinkFault"
-
--- why a wire's end does not forward
-abbrev pub down_name : Down → List ℕ
-down_name down.NoLocal = codes "NoLocal"
-down_name down.NoRemote = codes "NoRemote"
-down_name down.CBit = codes "CBit"
-down_name down.Kind = codes "Kind"
-down_name down.Mtu = codes "Mtu"
-down_name down.LocalFault = codes "LocalFault"
-down_name down.RemoteFault = codes "RemoteFault"
-down_name down.Standby = codes "Standby"
+cause_name cause = choice_word Cause (cause_place cause)
 
 -- a wire's end: up, or why it is down
 abbrev pub wire_end_name : Option Down → List ℕ
-wire_end_name None = codes "up"
-wire_end_name (Some down) = down_name down
-
--- why a session ended
-abbrev pub reason_name : Reason → List ℕ
-reason_name reason.BadVersion = codes "BadVersion"
-reason_name reason.BadReceiver = codes "BadReceiver"
-reason_name reason.ZeroKeepAlive = codes "ZeroKeepAlive"
-reason_name reason.Unexpected = codes "Unexpected"
-reason_name reason.Expired = codes "Expired"
-reason_name reason.PeerShutdown = codes "PeerShutdown"
-reason_name reason.PeerFatal = codes "PeerFatal"
-reason_name reason.Decode = codes "Decode"
-reason_name reason.Closed = codes "Closed"
-reason_name reason.LinkFault = codes "LinkFault"
-reason_name reason.BadIdentifier = codes "BadIdentifier"
+wire_end_name end = choice_word End (end_place end)
 
 -- a session's state; one that ended tells why
 abbrev pub state_name : StateName → List ℕ
-state_name state.NonExistent = codes "NonExistent"
-state_name state.Initialized = codes "Initialized"
-state_name state.OpenSent = codes "OpenSent"
-state_name state.OpenRec = codes "OpenRec"
-state_name state.Operational = codes "Operational"
-state_name (state.Ended reason) = codes "Ended:" ++ reason_name reason
+state_name state = choice_word State (state_place state)
 
 -- the words of an event, as a scenario writes it
 abbrev pub event_words : Plan → Event → List (List ℕ)

@@ -1,9 +1,11 @@
 //! The names that a report tells.
-ghost use Rattle.std.specs.Prelude.{◌≡◌, ◌++◌, codes};
+ghost use Rattle.std.specs.Prelude.{◌≡◌};
 ghost use Rattle.text_lines.specs.Lines.{word_octets};
-ghost use Rattle.report_text.specs.Words.{edge_name, circuit_name, wire_name, arrival_name, switch_name, cause_name, down_name, wire_end_name, reason_name, state_name};
+ghost use Rattle.report_text.specs.Words.{edge_name, circuit_name, wire_name, arrival_name, switch_name, cause_name, wire_end_name, state_name};
 
-use net_base::{Arrival, CircuitId, Down, DropCause, EdgeId, Plan, Reason, StateName, WireId};
+use crate::choice::{Choice, word_of};
+use crate::choice_values::{cause_place, end_place, state_place, switch_place};
+use net_base::{Arrival, CircuitId, Down, DropCause, EdgeId, Plan, StateName, WireId};
 use text_lines::LineWord;
 
 /// The name of an edge; empty outside the plan.
@@ -79,90 +81,26 @@ pub fn arrival_word(plan: &Plan, arrival: Arrival) -> LineWord<'_>
 pub fn switch_text(on: bool) -> &'static str
     ensures { result.now ≡ switch_name on }
 {
-    if on { "on" } else { "off" }
+    word_of(Choice::Switch, switch_place(on))
 }
 
 /// The cause of a drop by its name.
 pub fn cause_text(cause: DropCause) -> &'static str
     ensures { result.now ≡ cause_name cause }
 {
-    match cause {
-        DropCause::Short => "Short",
-        DropCause::Long => "Long",
-        DropCause::WrongTag => "WrongTag",
-        DropCause::NoTag => "NoTag",
-        DropCause::BadNibble => "BadNibble",
-        DropCause::NotBottom => "NotBottom",
-        DropCause::Ttl => "Ttl",
-        DropCause::NoLabel => "NoLabel",
-        DropCause::Down => "Down",
-        DropCause::NoBinding => "NoBinding",
-        DropCause::Expired => "Expired",
-        DropCause::Version => "Version",
-        DropCause::Channel => "Channel",
-        DropCause::Ip => "Ip",
-        DropCause::Checksum => "Checksum",
-        DropCause::Icmp => "Icmp",
-        DropCause::NotOffered => "NotOffered",
-        DropCause::LinkFault => "LinkFault",
-    }
-}
-
-/// Why a wire's end does not forward, by its name.
-pub fn down_text(down: Down) -> &'static str
-    ensures { result.now ≡ down_name down }
-{
-    match down {
-        Down::NoLocal => "NoLocal",
-        Down::NoRemote => "NoRemote",
-        Down::CBit => "CBit",
-        Down::Kind => "Kind",
-        Down::Mtu => "Mtu",
-        Down::LocalFault => "LocalFault",
-        Down::RemoteFault => "RemoteFault",
-        Down::Standby => "Standby",
-    }
+    word_of(Choice::Cause, cause_place(cause))
 }
 
 /// `up`, or why a wire's end does not forward.
 pub fn wire_end_text(down: Option<Down>) -> &'static str
     ensures { result.now ≡ wire_end_name down }
 {
-    match down {
-        Some(down) => down_text(down),
-        None => "up",
-    }
-}
-
-// `Ended:` and the reason.
-fn ended_text(reason: Reason) -> &'static str
-    ensures { result.now ≡ codes "Ended:" ++ reason_name reason }
-{
-    match reason {
-        Reason::BadVersion => "Ended:BadVersion",
-        Reason::BadReceiver => "Ended:BadReceiver",
-        Reason::ZeroKeepAlive => "Ended:ZeroKeepAlive",
-        Reason::Unexpected => "Ended:Unexpected",
-        Reason::Expired => "Ended:Expired",
-        Reason::PeerShutdown => "Ended:PeerShutdown",
-        Reason::PeerFatal => "Ended:PeerFatal",
-        Reason::Decode => "Ended:Decode",
-        Reason::Closed => "Ended:Closed",
-        Reason::LinkFault => "Ended:LinkFault",
-        Reason::BadIdentifier => "Ended:BadIdentifier",
-    }
+    word_of(Choice::End, end_place(down))
 }
 
 /// The state of a session by its name; after `Ended` stands a colon and the reason.
 pub fn state_text(state: StateName) -> &'static str
     ensures { result.now ≡ state_name state }
 {
-    match state {
-        StateName::NonExistent => "NonExistent",
-        StateName::Initialized => "Initialized",
-        StateName::OpenSent => "OpenSent",
-        StateName::OpenRec => "OpenRec",
-        StateName::Operational => "Operational",
-        StateName::Ended(reason) => ended_text(reason),
-    }
+    word_of(Choice::State, state_place(state))
 }

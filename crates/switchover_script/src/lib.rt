@@ -6,6 +6,7 @@
 mod lines;
 mod script;
 
+pub use lines::{apart, switch_shape};
 pub use script::read_script;
 pub use script_text::ScriptFault;
 pub use switchover_model::SwitchLine;

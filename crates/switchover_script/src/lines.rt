@@ -1,132 +1,108 @@
 //! The lines of a script.
-ghost use Rattle.std.specs.Prelude.{◌≡◌, ◌<◌, length, slice_get, if◌then◌else◌, IfOk, IfSome};
+ghost use Rattle.std.specs.Prelude.{◌≡◌, ◌<◌, ◌≤◌, length, map, IfOk};
 ghost use Rattle.command_text.specs.Planned.{names_of};
-ghost use Rattle.net_base.specs.plan.NameFaults.{wire_names};
-ghost use Rattle.script_words.specs.Reading.{said_at};
+ghost use Rattle.line_shapes.specs.Shapes.{AreFit, AreSmall, form_at, form_of, value_at};
 ghost use Rattle.switchover_model.specs.Planned.{IsLineOf};
-ghost use Rattle.switchover_script.specs.Lines.{between_two, connect_line, cut_in, deliver_line, has_two_edges, set_in, settle_in, short_wire, switch_line_of, wire_at, script_wish_of};
+ghost use Rattle.switchover_script.specs.Lines.{switch_apart, switch_forms, switch_line_of, switch_made};
 
-use command_text::{PlanNames, is_same};
-use net_base::{EdgeId, Plan, WireId};
+use command_text::PlanNames;
+use line_shapes::Kind::{Between, Edge, Number};
+use line_shapes::{Shape, Values, read_shaped, shape_at};
+use net_base::Plan;
 use script_text::ScriptFault;
 use script_words::NumberedLine;
 use status_exchange::Wish;
 use switchover_model::SwitchLine;
 
-// The wire at a place, where it has two edges.
-#[tactic(auto, unfolding(crate::specs::Lines::between_two))]
-fn of_two(plan: &Plan, wire: u16) -> Option<u16>
-    ensures exact { result ≡ between_two plan.now wire }
-    ensures within { IfSome result (λ place. place < length plan.now.wires) }
+/// The shape of each line.
+pub fn switch_shapes() -> &'static [Shape<'static>]
+    ensures { map form_of result.now ≡ switch_forms }
 {
-    match plan.wires.get(wire as usize) {
-        Some(row) => {
-            if row.path.len() == 2 {
-                Some(wire)
-            } else {
-                None
-            }
-        }
-        None => None,
-    }
+    &[
+        Shape(b"connect", &[Edge, Edge]),
+        Shape(b"cut", &[Edge, Edge]),
+        Shape(b"deliver", &[Edge, Edge, Number(1, 65535)]),
+        Shape(b"settle", &[Number(1, 10000)]),
+        Shape(b"active", &[Edge, Between]),
+        Shape(b"standby", &[Edge, Between]),
+        Shape(b"ask", &[Edge, Between]),
+    ]
 }
 
-// The wire of two edges that a name is of.
-fn wire_named(plan: &Plan, names: &PlanNames<'_>, name: &str) -> Option<u16>
-    requires names { names.now ≡ names_of plan.now }
-    ensures exact { result ≡ short_wire plan.now name.now }
-    ensures within { IfSome result (λ place. place < length plan.now.wires) }
+/// The shape of a row.
+pub fn switch_shape(row: usize) -> Shape<'static>
+    requires { row < 7 }
+    ensures form { form_of result ≡ form_at switch_forms row }
+    ensures short { length result.1.now ≤ 8 }
 {
-    match names.wires.place(name.as_bytes()) {
-        Some(place) => of_two(plan, place),
-        None => None,
-    }
+    shape_at(switch_shapes(), row)
 }
 
-// The wire of two edges that the third word names.
-fn wire(plan: &Plan, line: NumberedLine<'_, '_>) -> Result<u16, ScriptFault>
-    requires names { line.names.now ≡ names_of plan.now }
-    ensures exact { result ≡ wire_at plan.now line.entry.number 3 line.entry.line.now }
-    ensures within { IfOk result (λ place. place < length plan.now.wires) }
+// What an edge calls a wire from now on.
+fn set(values: &Values, wish: Wish) -> SwitchLine
+    requires edge { value_at 0 values.now < 65536 }
+    requires wire { value_at 1 values.now < 65536 }
+    ensures { result ≡ SwitchLine.Set (record { 0 = value_at 0 values.now }) (record { 0 = value_at 1 values.now }) wish }
 {
-    match line.line.word(2) {
-        Some(name) => match wire_named(plan, line.names, name) {
-            Some(place) => Ok(place),
-            None => Err(line.bad(3)),
-        },
-        None => Err(line.bad(3)),
-    }
-}
-
-// `connect E P` or `cut E P`.
-#[tactic(auto, unfolding(crate::specs::Lines::connect_line, crate::specs::Lines::cut_in))]
-fn join(plan: &Plan, line: NumberedLine<'_, '_>, joins: bool) -> Result<SwitchLine, ScriptFault>
-    requires names { line.names.now ≡ names_of plan.now }
-    ensures exact { result ≡ (if joins then connect_line plan.now line.entry.number line.entry.line.now else cut_in plan.now line.entry.number line.entry.line.now) }
-    ensures planned { IfOk result (IsLineOf plan.now) }
-{
-    let (edge, peer) = line.edges()?;
-    line.ends(3)?;
-    if joins {
-        Ok(SwitchLine::Connect { edge, peer })
-    } else {
-        Ok(SwitchLine::Cut { edge, peer })
-    }
-}
-
-// `deliver E P N`, with N from 1 to 65535.
-#[tactic(auto, unfolding(crate::specs::Lines::deliver_line))]
-fn deliver(plan: &Plan, line: NumberedLine<'_, '_>) -> Result<SwitchLine, ScriptFault>
-    requires names { line.names.now ≡ names_of plan.now }
-    ensures exact { result ≡ deliver_line plan.now line.entry.number line.entry.line.now }
-    ensures planned { IfOk result (IsLineOf plan.now) }
-{
-    let (from, to) = line.edges()?;
-    let count = line.decimal(1, 65535, 4)? as u16;
-    line.ends(4)?;
-    Ok(SwitchLine::Deliver { from, to, count })
-}
-
-// `settle N`, with N from 1 to 10000.
-#[tactic(auto, unfolding(crate::specs::Lines::settle_in))]
-fn settle(plan: &Plan, line: NumberedLine<'_, '_>) -> Result<SwitchLine, ScriptFault>
-    ensures exact { result ≡ settle_in line.entry.number line.entry.line.now }
-    ensures planned { IfOk result (IsLineOf plan.now) }
-{
-    let count = line.decimal(1, 10000, 2)? as u16;
-    line.ends(2)?;
-    Ok(SwitchLine::Settle { count })
-}
-
-// `active E W`, `standby E W` or `ask E W`.
-#[tactic(auto, unfolding(crate::specs::Lines::set_in))]
-fn set(plan: &Plan, line: NumberedLine<'_, '_>, wish: Wish) -> Result<SwitchLine, ScriptFault>
-    requires names { line.names.now ≡ names_of plan.now }
-    ensures exact { result ≡ set_in plan.now wish line.entry.number line.entry.line.now }
-    ensures planned { IfOk result (IsLineOf plan.now) }
-{
-    let me = line.place(&line.names.edges, 2)?;
-    let of = wire(plan, line)?;
-    line.ends(3)?;
-    Ok(SwitchLine::Set {
-        edge: EdgeId(me),
-        wire: WireId(of),
+    SwitchLine::Set {
+        edge: values.edge(0),
+        wire: values.wire(1),
         wish,
-    })
+    }
 }
 
-// What an edge calls a wire by a line of this first word.
-fn wish_of(word: &str) -> Option<Wish>
-    ensures { result ≡ script_wish_of word.now }
+// The line of a row and its values.
+fn made(plan: &Plan, row: usize, values: &Values) -> SwitchLine
+    requires row { row < 7 }
+    requires fit { AreFit plan.now (form_at switch_forms row).kinds values.now }
+    requires small { AreSmall (form_at switch_forms row).kinds values.now }
+    ensures exact { result ≡ switch_made row values.now }
+    ensures planned { IsLineOf plan.now result }
 {
-    if is_same(word, "active") {
-        Some(Wish::Active)
-    } else if is_same(word, "standby") {
-        Some(Wish::Standby)
-    } else if is_same(word, "ask") {
-        Some(Wish::Ask)
-    } else {
-        None
+    match row {
+        0 => SwitchLine::Connect {
+            edge: values.edge(0),
+            peer: values.edge(1),
+        },
+        1 => SwitchLine::Cut {
+            edge: values.edge(0),
+            peer: values.edge(1),
+        },
+        2 => SwitchLine::Deliver {
+            from: values.edge(0),
+            to: values.edge(1),
+            count: values.at(2) as u16,
+        },
+        3 => SwitchLine::Settle {
+            count: values.at(0) as u16,
+        },
+        4 => set(values, Wish::Active),
+        5 => set(values, Wish::Standby),
+        _ => set(values, Wish::Ask),
+    }
+}
+
+/// The row of a line, and its values.
+pub fn apart(line: SwitchLine) -> (usize, Values)
+    ensures exact { result ≡ switch_apart line }
+    ensures row { result.0 < 7 }
+{
+    match line {
+        SwitchLine::Connect { edge, peer } => (0, Values::of(&[edge.0 as u64, peer.0 as u64])),
+        SwitchLine::Cut { edge, peer } => (1, Values::of(&[edge.0 as u64, peer.0 as u64])),
+        SwitchLine::Deliver { from, to, count } => (
+            2,
+            Values::of(&[from.0 as u64, to.0 as u64, count as u64]),
+        ),
+        SwitchLine::Settle { count } => (3, Values::of(&[count as u64])),
+        SwitchLine::Set { edge, wire, wish } => {
+            let row = match wish {
+                Wish::Active => 4,
+                Wish::Standby => 5,
+                Wish::Ask => 6,
+            };
+            (row, Values::of(&[edge.0 as u64, wire.0 as u64]))
+        }
     }
 }
 
@@ -138,19 +114,8 @@ pub fn read_line(plan: &Plan, line: NumberedLine<'_, '_>) -> Result<SwitchLine, 
     ensures exact { result ≡ switch_line_of plan.now line.entry.number line.entry.line.now }
     ensures planned { IfOk result (IsLineOf plan.now) }
 {
-    let word = line.first();
-    if is_same(word, "connect") {
-        join(plan, line, true)
-    } else if is_same(word, "cut") {
-        join(plan, line, false)
-    } else if is_same(word, "deliver") {
-        deliver(plan, line)
-    } else if is_same(word, "settle") {
-        settle(plan, line)
-    } else {
-        match wish_of(word) {
-            Some(wish) => set(plan, line, wish),
-            None => Err(line.bad(1)),
-        }
+    match read_shaped(plan, line.names, switch_shapes(), line.line) {
+        Ok((row, values)) => Ok(made(plan, row, &values)),
+        Err(word) => Err(line.bad(word)),
     }
 }

@@ -1,36 +1,23 @@
 -- The report of a script of independent mode (RFC 6870 section 4).
 use Rattle.std.specs.Prelude.{◌++◌, ℕ, codes, Bool, true, false, List, [], ◌∷◌, length}
 use Rattle.std.specs.Fmt.{decimal}
+use Rattle.line_shapes.specs.Shapes.{form_at, line_words}
 use Rattle.net_base.specs.declared.plan.Plan.{Plan}
 use Rattle.report_text.specs.Words.{edge_name, wire_name}
-use Rattle.status_exchange.specs.declared.wish.Wish.{Wish}
-use Rattle.status_exchange.specs.declared.wish.Wish.TheVariants.{Active, Standby, Ask}
 use Rattle.switchover_model.specs.Network.{first_network}
 use Rattle.switchover_model.specs.Text.{script_entries}
 use Rattle.switchover_model.specs.declared.switch_entry.SwitchEntry.{SwitchEntry}
 use Rattle.switchover_model.specs.declared.switch_entry.SwitchEntry.TheVariants.{Said, Uses, Idle}
 use Rattle.switchover_model.specs.declared.switch_line.SwitchLine.{SwitchLine}
-use Rattle.switchover_model.specs.declared.switch_line.SwitchLine.TheVariants.{Connect, Cut, Deliver, Settle, Set}
+use Rattle.switchover_script.specs.Lines.{switch_apart, switch_forms}
 use Rattle.text_lines.specs.Lines.{line_of}
 use Rattle.text_pieces.specs.Pieces.{hex}
 
 -- ---- lines of the script
 
-abbrev pub wish_word : Wish → List ℕ
-wish_word Active = codes "active"
-wish_word Standby = codes "standby"
-wish_word Ask = codes "ask"
-
--- the words of a line, as the script writes it
-abbrev pub switch_words : Plan → SwitchLine → List (List ℕ)
-switch_words plan (Connect edge peer) = codes "connect" ∷ edge_name plan edge ∷ edge_name plan peer ∷ []
-switch_words plan (Cut edge peer) = codes "cut" ∷ edge_name plan edge ∷ edge_name plan peer ∷ []
-switch_words plan (Deliver from to count) = codes "deliver" ∷ edge_name plan from ∷ edge_name plan to ∷ decimal count ∷ []
-switch_words plan (Settle count) = codes "settle" ∷ decimal count ∷ []
-switch_words plan (Set edge wire wish) = wish_word wish ∷ edge_name plan edge ∷ wire_name plan wire ∷ []
-
+-- a line with the words of its row
 abbrev pub done_line : Plan → SwitchLine → List ℕ
-done_line plan line = line_of (codes ">" ∷ switch_words plan line)
+done_line plan line = line_of (codes ">" ∷ line_words plan (form_at switch_forms (switch_apart line).0) (switch_apart line).1)
 
 -- ---- what is told of them
 

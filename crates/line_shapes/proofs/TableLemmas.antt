@@ -1,0 +1,115 @@
+-- The tests of a table tell what the laws ask of it.
+use Rattle.std.proofs.Common.{◌≡◌, ◌<◌, ◌∙◌, not, ℕ, zero, suc, true, false, List, [], ◌∷◌, length, Option, Some, None, Result, Ok, Err, IfSome, inl, inr, refl, sym, ap, subst, arith}
+use Rattle.std.proofs.lemmas.Bool.{cases_lt, not-true, and_parts}
+use Rattle.std.proofs.lemmas.Bool.Decides.{nat_tests}
+use Rattle.std.proofs.lemmas.List.Quantifiers.{position-Some}
+use Rattle.std.specs.List.{list_all}
+use Rattle.std.specs.Str.{bytes_eq}
+use Rattle.net_base.specs.declared.plan.Plan.{Plan}
+use Rattle.event_laws.specs.Law.{HasNames}
+use Rattle.line_shapes.proofs.AgainLemmas.{again}
+use Rattle.line_shapes.proofs.FitLemmas.{line_fit}
+use Rattle.line_shapes.proofs.LawLemmas.{reads}
+use Rattle.line_shapes.specs.Laws.{AreKinds, HaveWords, IsKind, have_kinds, have_words, is_kind}
+use Rattle.line_shapes.specs.Shapes.{◌>>=◌, AreFit, Form, first_said, form_at, found, has_word, line_said, line_words, no_form, row_of, told_by, values_said}
+use Rattle.line_shapes.specs.declared.kind.Kind.{Kind}
+use Rattle.line_shapes.specs.declared.kind.Kind.TheVariants.{Edge, Circuit, Wire, Between, Number, OneOf}
+
+one_kind : (kind : Kind) → is_kind kind ≡ true → IsKind kind
+one_kind Edge is = tt
+one_kind Circuit is = tt
+one_kind Wire is = tt
+one_kind Between is = tt
+one_kind (Number low high) is = grind (arith, nat_tests, is)
+one_kind (OneOf choice) is = tt
+
+all_kinds : (kinds : List Kind) → list_all is_kind kinds ≡ true → AreKinds kinds
+all_kinds [] are = tt
+all_kinds (kind ∷ kinds) are = let both = and_parts (is_kind kind) (list_all is_kind kinds) are in (one_kind kind both.0, all_kinds kinds both.1)
+
+-- no number of the table has more than 64 bits
+pub are_kinds : (forms : List Form) (row : ℕ) → have_kinds forms ≡ true → AreKinds (form_at forms row).kinds
+unfolding have_kinds
+are_kinds [] row are = tt
+are_kinds (f ∷ forms) zero are = all_kinds f.kinds (and_parts (list_all is_kind f.kinds) (have_kinds forms) are).0
+are_kinds (f ∷ forms) (suc row) are = are_kinds forms row (and_parts (list_all is_kind f.kinds) (have_kinds forms) are).1
+
+one_other : (word : List ℕ) (forms : List Form) (b : ℕ) → list_all (λ other. not (bytes_eq word other.word)) forms ≡ true → b < length forms → bytes_eq word (form_at forms b).word ≡ false
+one_other word [] b other lt = absurd (omega (arith, lt))
+one_other word (f ∷ forms) zero other lt = not-true (bytes_eq word f.word) (and_parts (not (bytes_eq word f.word)) (list_all (λ g. not (bytes_eq word g.word)) forms) other).0
+one_other word (f ∷ forms) (suc b) other lt = one_other word forms b (and_parts (not (bytes_eq word f.word)) (list_all (λ g. not (bytes_eq word g.word)) forms) other).1 (omega (arith, lt))
+
+-- the first words of the table differ
+pub words_differ : (forms : List Form) → have_words forms ≡ true → HaveWords forms
+unfolding have_words
+words_differ [] are a b before lt = absurd (omega (arith, lt))
+words_differ (f ∷ forms) are zero zero before lt = absurd (omega (arith, before))
+words_differ (f ∷ forms) are zero (suc b) before lt = one_other f.word forms b (and_parts (list_all (λ other. not (bytes_eq f.word other.word)) forms) (have_words forms) are).0 (omega (arith, lt))
+words_differ (f ∷ forms) are (suc a) zero before lt = absurd (omega (arith, before))
+words_differ (f ∷ forms) are (suc a) (suc b) before lt =
+    words_differ forms (and_parts (list_all (λ other. not (bytes_eq f.word other.word)) forms) (have_words forms) are).1 a b (omega (arith, before)) (omega (arith, lt))
+
+-- what holds of each number below another one
+abbrev pub AllBelow : (ℕ → Type 0) → ℕ → Type 0
+AllBelow P zero = Unit {0}
+AllBelow P (suc n) = AllBelow P n × P n
+
+pub below_all : (P : ℕ → Type 0) (n k : ℕ) → AllBelow P n → k < n → P k
+below_all P zero k all lt = absurd (omega (arith, lt))
+below_all P (suc n) k all lt = elim (cases_lt k n) [
+  | inl under ↦ below_all P n k all.0 under
+  | inr top ↦
+      let same : k ≡ n = omega (arith, top, lt) in
+      subst P (sym same) all.1
+]
+
+row_in : Result (ℕ × List ℕ) ℕ → ℕ
+row_in (Ok read) = read.0
+row_in (Err number) = 0
+
+row_kept : (row : ℕ) (r : Result (List ℕ) ℕ) (read : ℕ × List ℕ) → (r >>= (λ values. Ok (row, values))) ≡ Ok read → row ≡ read.0
+unfolding row_in
+row_kept row (Ok values) read is = ap row_in is
+row_kept row (Err number) read is = cc is
+
+row_of_read : (plan : Plan) (forms : List Form) (words : List (List ℕ)) (o : Option ℕ) (read : ℕ × List ℕ) → IfSome o (λ row. row < length forms)
+    → (found 1 o >>= (λ row. values_said plan words 1 (form_at forms row).kinds >>= (λ values. Ok (row, values)))) ≡ Ok read → read.0 < length forms
+row_of_read plan forms words None read within e = cc e
+row_of_read plan forms words (Some row) read within e = subst (λ n. n < length forms) (row_kept row (values_said plan words 1 (form_at forms row).kinds) read e) within
+
+row_place : (forms : List Form) (word : List ℕ) → IfSome (row_of forms word) (λ row. row < length forms)
+row_place forms word = by (row_of forms word) refl where
+  by : (o : Option ℕ) → row_of forms word ≡ o → IfSome o (λ row. row < length forms)
+  by None is = tt
+  by (Some row) is = (position-Some (has_word word) forms row no_form is).0
+
+-- the row of a line that is read is one of the table
+pub line_within : (plan : Plan) (forms : List Form) (words : List (List ℕ)) (read : ℕ × List ℕ) → line_said plan forms words ≡ Ok read → read.0 < length forms
+unfolding line_said
+line_within plan forms words read e = row_of_read plan forms words (row_of forms (first_said words)) read (row_place forms (first_said words)) e
+
+-- what holds of each row, its values and the words that are written for them holds of what is read
+pub rows_hold : {A : Type 0} (plan : Plan) (forms : List Form) (made : ℕ → List ℕ → A) (P : A → List (List ℕ) → Type 0) (word : List ℕ) (words : List (List ℕ)) → have_kinds forms ≡ true
+    → ((row : ℕ) → row < length forms → (v : List ℕ) → AreFit plan (form_at forms row).kinds v → P (made row v) (line_words plan (form_at forms row) v))
+    → IfSome (told_by made (line_said plan forms (word ∷ words))) (λ x. P x (word ∷ words))
+rows_hold plan forms made P word words kinds each = by (line_said plan forms (word ∷ words)) refl where
+  by : (r : Result (ℕ × List ℕ) ℕ) → line_said plan forms (word ∷ words) ≡ r → IfSome (told_by made r) (λ x. P x (word ∷ words))
+  by (Ok read) is =
+      subst (P (made read.0 read.1)) (again plan forms word words read (are_kinds forms read.0 kinds) is)
+      (each read.0 (line_within plan forms (word ∷ words) read is) read.1 (line_fit plan forms (word ∷ words) read is))
+  by (Err number) is = tt
+
+-- what a row of a table says: the words that are written for its values are read as what they make
+pub record IsRow {A : Type 0} (plan : Plan) (forms : List Form) (made : ℕ → List ℕ → A) (words : List (List ℕ)) (x : A) : Type 0 where
+  pub row : ℕ
+  pub values : List ℕ
+  pub within : row < length forms
+  pub fit : AreFit plan (form_at forms row).kinds values
+  pub written : words ≡ line_words plan (form_at forms row) values
+  pub is : made row values ≡ x
+
+pub row_read : {A : Type 0} (plan : Plan) (forms : List Form) (made : ℕ → List ℕ → A) (words : List (List ℕ)) (x : A) → HasNames plan → have_words forms ≡ true → have_kinds forms ≡ true
+    → IsRow plan forms made words x → told_by made (line_said plan forms words) ≡ Some x
+row_read plan forms made words x names differ kinds told =
+    ap (λ (l : List (List ℕ)). told_by made (line_said plan forms l)) told.written
+    ∙ (ap (told_by made) (reads plan forms told.row told.values names (words_differ forms differ) told.within (are_kinds forms told.row kinds) told.fit) ∙ ap Some told.is)

@@ -1,0 +1,79 @@
+//! The words of values.
+ghost use Rattle.std.specs.Prelude.{◌≡◌, ◌≤◌, ◌+◌, length, map, take, ◌∷◌};
+ghost use Rattle.line_shapes.specs.Shapes.{form_of, line_words, value_word, value_words};
+ghost use Rattle.text_lines.specs.Lines.{word_octets};
+
+use crate::kind::Kind;
+use crate::shape::Shape;
+use crate::values::Values;
+use net_base::Plan;
+use report_text::word_of;
+use text_lines::LineWord;
+
+/// The most words of a line of a shape.
+pub const SHAPED: usize = 9;
+
+// The name of an edge; empty outside the plan.
+fn edge(plan: &Plan, place: usize) -> &[u8]
+    ensures { result.now ≡ value_word plan.now Kind.Edge place }
+{
+    match plan.edges.get(place) {
+        Some(row) => row.name.as_slice(),
+        None => &[],
+    }
+}
+
+// The name of a circuit, in the same way.
+fn circuit(plan: &Plan, place: usize) -> &[u8]
+    ensures { result.now ≡ value_word plan.now Kind.Circuit place }
+{
+    match plan.circuits.get(place) {
+        Some(row) => row.name.as_slice(),
+        None => &[],
+    }
+}
+
+// The name of a wire, in the same way.
+fn wire(plan: &Plan, place: usize) -> &[u8]
+    ensures { result.now ≡ value_word plan.now Kind.Wire place }
+{
+    match plan.wires.get(place) {
+        Some(row) => row.name.as_slice(),
+        None => &[],
+    }
+}
+
+// The word of a value.
+fn word(plan: &Plan, kind: Kind, value: u64) -> LineWord<'_>
+    ensures { word_octets result ≡ value_word plan.now kind value }
+{
+    match kind {
+        Kind::Edge => LineWord::Text(edge(plan, value as usize)),
+        Kind::Circuit => LineWord::Text(circuit(plan, value as usize)),
+        Kind::Wire | Kind::Between => LineWord::Text(wire(plan, value as usize)),
+        Kind::Number(_, _) => LineWord::Number(value),
+        Kind::OneOf(choice) => LineWord::Text(word_of(choice, value).as_bytes()),
+    }
+}
+
+/// Puts the words of a line into room, and tells how many they are. A place outside the plan is written as the empty text.
+pub fn shaped_words<'a>(
+    plan: &'a Plan,
+    shape: Shape<'a>,
+    values: &Values,
+    room: &mut [LineWord<'a>; 9],
+) -> usize
+    requires few { length shape.1.now ≤ 8 }
+    ensures size { length room.new ≡ 9 }
+    ensures within { result ≤ 9 }
+    ensures words { map word_octets (take result room.new) ≡ line_words plan.now (form_of shape.entry) values.now }
+{
+    room[0] = LineWord::Text(shape.0);
+    let mut count = 1;
+    let kinds = shape.1;
+    for (place, kind) in kinds.iter().enumerate() {
+        room[count] = word(plan, *kind, values.at(place));
+        count += 1;
+    }
+    count
+}
