@@ -5,7 +5,7 @@ use Rattle.net_base.specs.declared.trace.event.Event.{Event}
 use Rattle.event_laws.specs.Law.{HasNames}
 use Rattle.network_model.specs.Run.{run}
 use Rattle.flight_laws.specs.Laws.{IsRun}
-use Rattle.report_reading.specs.Read.{ReadReport}
+use Rattle.report_text.specs.Read.{ReadReport}
 use Rattle.report_entries.specs.Report.{told_of}
 use Rattle.trace_audit.specs.declared.audit_stop.AuditStop.{AuditStop}
 use Rattle.trace_audit.specs.Audited.{IsAudited, IsGoodTrace}

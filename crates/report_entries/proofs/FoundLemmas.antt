@@ -1,6 +1,6 @@
 -- An entry is read from its words.
-use Rattle.std.proofs.Common.{◌≡◌, ◌<◌, ◌≤◌, ◌^◌, ◌++◌, ◌∙◌, ℕ, suc, codes, Bool, true, false, List, [], ◌∷◌, Option, Some, None, cond, length, map, nat_lt, option_map, slice_get, refl, sym, ap, subst, arith}
-use Rattle.std.proofs.lemmas.Bool.{le-leb}
+use Rattle.std.proofs.Common.{◌≡◌, ◌<◌, ◌≤◌, ◌++◌, ◌∙◌, ℕ, suc, codes, Bool, true, false, List, [], ◌∷◌, Option, Some, None, cond, length, map, nat_lt, option_map, slice_get, refl, sym, ap, subst, arith, inl, inr, not}
+use Rattle.std.proofs.lemmas.Bool.{le-leb, not-true}
 use Rattle.std.proofs.lemmas.Bool.Decides.{Decides-ltb}
 use Rattle.std.proofs.lemmas.Slice.Eq.{bytes_eq-Decides}
 use Rattle.std.specs.List.{position, position_or_len}
@@ -16,38 +16,34 @@ use Rattle.net_base.specs.declared.plan.places.EdgeId.{EdgeId}
 use Rattle.net_base.specs.declared.plan.places.WireId.{WireId}
 use Rattle.net_base.specs.declared.trace.arrival.Arrival.{Arrival}
 use Rattle.net_base.specs.declared.trace.arrival.Arrival.TheVariants as arrival
-use Rattle.net_base.specs.declared.trace.down.Down.{Down}
-use Rattle.net_base.specs.declared.trace.down.Down.TheVariants as down
-use Rattle.net_base.specs.declared.trace.drop_cause.DropCause.{DropCause}
-use Rattle.net_base.specs.declared.trace.drop_cause.DropCause.TheVariants as cause
 use Rattle.net_base.specs.declared.trace.entry.Entry.{Entry}
 use Rattle.net_base.specs.declared.trace.entry.Entry.TheVariants as entry
 use Rattle.net_base.specs.declared.trace.event.Event.{Event}
 use Rattle.net_base.specs.declared.trace.event.Event.TheVariants as event
-use Rattle.net_base.specs.declared.trace.state_name.Reason.TheVariants as reason
-use Rattle.net_base.specs.declared.trace.state_name.StateName.{StateName}
-use Rattle.net_base.specs.declared.trace.state_name.StateName.TheVariants as state
 use Rattle.net_base.specs.plan.Accepted.{IsChecked}
 use Rattle.command_text.specs.Names.{place_in}
 use Rattle.command_text.specs.Planned.{names_of}
-use Rattle.command_text.specs.Words.{decimal_from}
 use Rattle.text_pieces.specs.Pieces.{hex}
 use Rattle.text_lines.specs.Lines.{line_of}
 use Rattle.read_lines.specs.Plain.{HasWords}
 use Rattle.report_text.specs.Report.{entry_line, entry_words}
-use Rattle.report_text.specs.Words.{arrival_name, cause_name, circuit_name, edge_name, event_words, name_or_empty, state_name, switch_name, wire_end_name, wire_name}
+use Rattle.report_text.specs.Words.{arrival_name, circuit_name, edge_name, event_words, name_or_empty, wire_name}
 use Rattle.event_laws.specs.Law.{HasNames}
-use Rattle.event_laws.proofs.ValueLemmas.{number_said, octets_read, row_said}
-use Rattle.report_reading.specs.Named.{AreOctetsTold, HasNamesApart, IsArrival, IsCircuit, IsNamedEdge, IsEntryNamed, IsNamedEvent, IsToldNumber, IsWire, IsFromTo}
-use Rattle.report_reading.proofs.ApartLemmas.{names_apart}
-use Rattle.report_reading.proofs.PlainLemmas.{entry_plain}
+use Rattle.event_laws.proofs.ValueLemmas.{all_below, below_at, number_said, octets_read, row_said}
+use Rattle.line_shapes.specs.Laws.{have_kinds, have_words}
+use Rattle.line_shapes.specs.Shapes.{form_at, line_words as words_of_row}
+use Rattle.line_shapes.proofs.TableLemmas.{IsRow, row_read}
+use Rattle.report_text.specs.Named.{AreOctetsTold, HasNamesApart, IsArrival, IsCircuit, IsNamedEdge, IsEntryNamed, IsNamedEvent, IsToldNumber, IsWire}
+use Rattle.report_entries.proofs.ApartLemmas.{names_apart}
+use Rattle.report_entries.proofs.PlainLemmas.{entry_plain}
 use Rattle.report_entries.specs.Cut.{line_words, words_within}
-use Rattle.report_entries.specs.Entries.{aged_in, carried_in, copied_in, dropped_in, entered_in, told_entry_of, idle_in, left_in, line_entry, told_entry_in, packet_told_in, passed_in, pong_in, said_in, sent_in, session_in, answer_told, wire_told_in, words_entry}
-use Rattle.report_entries.specs.Events.{circuit_switch_told, connect_told, connection_event_in, deliver_told, event_told, frame_event_told, frame_told, lose_told, packet_named, part_event_in, ping_told, priority_told, restart_told, status_told, tick_told, wire_switch_told}
+use Rattle.report_entries.specs.Entries.{carried_in, entered_in, entry_forms, entry_made, left_in, line_entry, passed_in, row_entry, said_in, sent_in, told_entry_in, told_entry_of, words_entry}
+use Rattle.report_entries.specs.Events.{event_forms, event_made, event_told, frame_told, row_event}
 use Rattle.report_entries.proofs.CutLemmas.{joined_free, line_is, words_found}
 use Rattle.report_entries.proofs.DigitLemmas.{digits_small}
+use Rattle.report_entries.proofs.RowLemmas.{aged_told, copied_told, down_told, dropped_told, event_row, idle_told, pong_told, session_told}
 use Rattle.report_entries.specs.Laws.{IsFreeOf}
-use Rattle.report_entries.specs.Reading.{arrival_in, cause_in, cause_rest_in, circuit_of_word, edge_of_word, ended_in, number_in, digits_told, sequence_in, state_in, switch_in, wire_end_in, wire_of_word}
+use Rattle.report_entries.specs.Reading.{arrival_in, circuit_of_word, digits_told, edge_of_word, number_in, wire_of_word}
 
 -- ---- values
 
@@ -55,73 +51,9 @@ number_found : (n : ℕ) → IsToldNumber n → number_in (decimal n) ≡ Some n
 unfolding number_in
 number_found n is = number_said 0 18446744073709551615 n (omega arith) (omega (arith, is)) is
 
-within_found : (low high n : ℕ) → IsFromTo low high n → high < 2 ^ 64 → decimal_from low high (decimal n) ≡ Some n
-within_found low high n is few = number_said low high n is.0 is.1 (omega (arith, is.1, few))
-
-sequence_found : (n : ℕ) → IsFromTo 0 65535 n → sequence_in (decimal n) ≡ Some n
-unfolding sequence_in
-sequence_found n is = within_found 0 65535 n is (omega arith)
-
 octets_found : (octets : List ℕ) → AreOctetsTold octets → digits_told (hex octets) ≡ Some octets
 unfolding digits_told
 octets_found octets are = rw (digits_small octets are) (octets_read octets are)
-
-switch_found : (on : Bool) → switch_in (switch_name on) ≡ Some on
-unfolding switch_in
-switch_found true = refl
-switch_found false = refl
-
-cause_found : (x : DropCause) → cause_in (cause_name x) ≡ Some x
-unfolding cause_in cause_rest_in
-cause_found cause.Short = refl
-cause_found cause.Long = refl
-cause_found cause.WrongTag = refl
-cause_found cause.NoTag = refl
-cause_found cause.BadNibble = refl
-cause_found cause.NotBottom = refl
-cause_found cause.Ttl = refl
-cause_found cause.NoLabel = refl
-cause_found cause.Down = refl
-cause_found cause.NoBinding = refl
-cause_found cause.Expired = refl
-cause_found cause.Version = refl
-cause_found cause.Channel = refl
-cause_found cause.Ip = refl
-cause_found cause.Checksum = refl
-cause_found cause.Icmp = refl
-cause_found cause.NotOffered = refl
-cause_found cause.LinkFault = refl
-
-end_found : (x : Option Down) → wire_end_in (wire_end_name x) ≡ Some x
-unfolding wire_end_in
-end_found None = refl
-end_found (Some down.NoLocal) = refl
-end_found (Some down.NoRemote) = refl
-end_found (Some down.CBit) = refl
-end_found (Some down.Kind) = refl
-end_found (Some down.Mtu) = refl
-end_found (Some down.LocalFault) = refl
-end_found (Some down.RemoteFault) = refl
-end_found (Some down.Standby) = refl
-
-state_found : (x : StateName) → state_in (state_name x) ≡ Some x
-unfolding state_in ended_in
-state_found state.NonExistent = refl
-state_found state.Initialized = refl
-state_found state.OpenSent = refl
-state_found state.OpenRec = refl
-state_found state.Operational = refl
-state_found (state.Ended reason.BadVersion) = refl
-state_found (state.Ended reason.BadReceiver) = refl
-state_found (state.Ended reason.ZeroKeepAlive) = refl
-state_found (state.Ended reason.Unexpected) = refl
-state_found (state.Ended reason.Expired) = refl
-state_found (state.Ended reason.PeerShutdown) = refl
-state_found (state.Ended reason.PeerFatal) = refl
-state_found (state.Ended reason.Decode) = refl
-state_found (state.Ended reason.Closed) = refl
-state_found (state.Ended reason.LinkFault) = refl
-state_found (state.Ended reason.BadIdentifier) = refl
 
 abbrev as_edge : Option ℕ → Option EdgeId
 as_edge place = option_map (λ (n : ℕ). record { 0 = n }) place
@@ -131,6 +63,12 @@ as_circuit place = option_map (λ (n : ℕ). record { 0 = n }) place
 
 abbrev as_wire : Option ℕ → Option WireId
 as_wire place = option_map (λ (n : ℕ). record { 0 = n }) place
+
+-- no row is that of a frame
+no_frame : (plan : Plan) (row : ℕ) (values : List ℕ) → row < 13 → event_told plan (words_of_row plan (form_at event_forms row) values) ≡ row_event plan (words_of_row plan (form_at event_forms row) values)
+unfolding all_below
+no_frame plan row values lt =
+    rw (not-true (bytes_eq (form_at event_forms row).word (codes "frame")) (below_at (λ n. not (bytes_eq (form_at event_forms n).word (codes "frame"))) 13 row refl lt)) refl
 
 module _ (plan : Plan) (names : HasNames plan) where
   edge_found : (a : EdgeId) → IsNamedEdge plan a → edge_of_word (names_of plan) (edge_name plan a) ≡ Some a
@@ -145,22 +83,22 @@ module _ (plan : Plan) (names : HasNames plan) where
   unfolding wire_of_word
   wire_found a is = ap as_wire (row_said (λ (row : WirePlan). row.name) plan.wires a.0 names.wires is)
 
-  event_found : (x : Event) → IsNamedEvent plan x → event_told (names_of plan) (event_words plan x) ≡ Some x
-  unfolding frame_event_told connection_event_in part_event_in connect_told deliver_told lose_told restart_told tick_told frame_told packet_named wire_switch_told circuit_switch_told status_told priority_told ping_told
-  event_found (event.Connect from to) is = rw (edge_found from is.0, edge_found to is.1) refl
-  event_found (event.Deliver from to count) is = rw (edge_found from is.0, edge_found to is.1.0, within_found 1 65535 count is.1.1 (omega arith)) refl
-  event_found (event.Lose edge peer) is = rw (edge_found edge is.0, edge_found peer is.1) refl
-  event_found (event.Restart edge) is = rw (edge_found edge is) refl
-  event_found event.Tick is = refl
-  event_found (event.Frame circuit octets) is = rw (circuit_found circuit is.0, octets_found octets is.1.0, le-leb (length octets) 262144 is.1.1) refl
-  event_found (event.Arrive packet) is = rw (within_found 1 18446744073709551615 packet is (omega arith)) refl
-  event_found (event.Discard packet) is = rw (within_found 1 18446744073709551615 packet is (omega arith)) refl
-  event_found (event.Again packet) is = rw (within_found 1 18446744073709551615 packet is (omega arith)) refl
-  event_found (event.Wire edge wire on) is = rw (edge_found edge is.0, wire_found wire is.1, switch_found on) refl
-  event_found (event.Circuit circuit on) is = rw (circuit_found circuit is, switch_found on) refl
-  event_found (event.Status edge wire bits) is = rw (edge_found edge is.0, wire_found wire is.1.0, within_found 0 31 bits is.1.1 (omega arith)) refl
-  event_found (event.Priority edge wire priority) is = rw (edge_found edge is.0, wire_found wire is.1.0, within_found 0 255 priority is.1.1 (omega arith)) refl
-  event_found (event.Ping edge wire) is = rw (edge_found edge is.0, wire_found wire is.1) refl
+  frame_found : (circuit : CircuitId) (octets : List ℕ) → IsNamedEvent plan (event.Frame circuit octets) → event_told plan (event_words plan (event.Frame circuit octets)) ≡ Some (event.Frame circuit octets)
+  unfolding frame_told
+  frame_found circuit octets is = rw (circuit_found circuit is.0, octets_found octets is.1.0, le-leb (length octets) 262144 is.1.1) refl
+
+  row_event_found : (x : Event) → IsRow plan event_forms event_made (event_words plan x) x → event_told plan (event_words plan x) ≡ Some x
+  unfolding row_event have_words have_kinds
+  row_event_found x told =
+      ap (event_told plan) told.written
+      ∙ (no_frame plan told.row told.values told.within
+      ∙ (ap (row_event plan) (sym told.written) ∙ row_read plan event_forms event_made (event_words plan x) x names refl refl told))
+
+  event_found : (x : Event) → IsNamedEvent plan x → event_told plan (event_words plan x) ≡ Some x
+  event_found x is = elim (event_row plan x is) [
+    | inl frame ↦ subst (λ (e : Event). IsNamedEvent plan e → event_told plan (event_words plan e) ≡ Some e) (sym frame.is) (frame_found frame.circuit frame.octets) is
+    | inr told ↦ row_event_found x told
+  ]
 
 -- a word that is no name has no place among them
 no_place : {Y : Type 0} (f : Y → List ℕ) (rows : List Y) (word : List ℕ) → ((i : ℕ) → i < length rows → bytes_eq word (name_or_empty (option_map f (slice_get rows i))) ≡ false)
@@ -224,10 +162,13 @@ module _ (plan : Plan) (names : HasNames plan) (apart : HasNamesApart plan) wher
   arrival_found (arrival.Wire a) is = rw (no_dash_wire a is, no_circuit plan apart a is, wire_found plan names a is) refl
   arrival_found arrival.Own is = refl
 
-  entry_found : (x : Entry) → IsEntryNamed plan x → words_entry (names_of plan) (entry_words plan x) ≡ Some x
-  unfolding told_entry_of packet_told_in answer_told idle_in said_in entered_in sent_in carried_in passed_in copied_in aged_in left_in dropped_in session_in wire_told_in pong_in
+  row_found : (x : Entry) → IsRow plan entry_forms entry_made (entry_words plan x) x → row_entry plan (entry_words plan x) ≡ Some x
+  unfolding row_entry have_words have_kinds
+  row_found x told = row_read plan entry_forms entry_made (entry_words plan x) x names refl refl told
+
+  entry_found : (x : Entry) → IsEntryNamed plan x → words_entry plan (entry_words plan x) ≡ Some x
+  unfolding told_entry_of said_in entered_in sent_in carried_in passed_in left_in
   entry_found (entry.Did event) is = rw (event_found plan names event is) refl
-  entry_found entry.Idle is = refl
   entry_found (entry.Said from to octets) is = rw (edge_found plan names from is.0, edge_found plan names to is.1.0, octets_found octets is.1.1) refl
   entry_found (entry.In circuit number octets) is = rw (circuit_found plan names circuit is.0, number_found number is.1.0, octets_found octets is.1.1) refl
   entry_found (entry.Sent from to wire came packet origin hops octets) is = rw (
@@ -240,13 +181,14 @@ module _ (plan : Plan) (names : HasNames plan) (apart : HasNamesApart plan) wher
     number_found hops is.1.1.1.1.1.1.0,
     octets_found octets is.1.1.1.1.1.1.1,
   ) refl
-  entry_found (entry.Copied packet of) is = rw (number_found packet is.0, number_found of is.1) refl
-  entry_found (entry.Aged packet) is = rw (number_found packet is) refl
   entry_found (entry.Left circuit origin hops octets) is = rw (circuit_found plan names circuit is.0, number_found origin is.1.0, number_found hops is.1.1.0, octets_found octets is.1.1.1) refl
-  entry_found (entry.Dropped edge origin cause) is = rw (edge_found plan names edge is.0, number_found origin is.1, cause_found cause) refl
-  entry_found (entry.Session edge peer state) is = rw (edge_found plan names edge is.0, edge_found plan names peer is.1, state_found state) refl
-  entry_found (entry.Wire edge wire down) is = rw (edge_found plan names edge is.0, wire_found plan names wire is.1, end_found down) refl
-  entry_found (entry.Pong edge wire sequence) is = rw (edge_found plan names edge is.0, wire_found plan names wire is.1.0, sequence_found sequence is.1.1) refl
+  entry_found entry.Idle is = row_found entry.Idle (idle_told plan)
+  entry_found (entry.Copied packet of) is = row_found (entry.Copied packet of) (copied_told plan packet of is.0 is.1)
+  entry_found (entry.Aged packet) is = row_found (entry.Aged packet) (aged_told plan packet is)
+  entry_found (entry.Dropped edge origin cause) is = row_found (entry.Dropped edge origin cause) (dropped_told plan edge origin cause is.0 is.1)
+  entry_found (entry.Session edge peer state) is = row_found (entry.Session edge peer state) (session_told plan edge peer state is.0 is.1)
+  entry_found (entry.Wire edge wire down) is = row_found (entry.Wire edge wire down) (down_told plan edge wire down is.0 is.1)
+  entry_found (entry.Pong edge wire sequence) is = row_found (entry.Pong edge wire sequence) (pong_told plan edge wire sequence is.0 is.1.0 is.1.1)
 
   -- an entry's line, without its line feed
   pub record IsEntryLine (x : Entry) (line : List ℕ) : Type 0 where
@@ -267,8 +209,8 @@ module _ (plan : Plan) (names : HasNames plan) (apart : HasNamesApart plan) wher
   pub line_found : (x : Entry) (line : List ℕ) → IsEntryNamed plan x → entry_line plan x ≡ line ++ codes "\n" → line_entry plan line ≡ Some x
   unfolding line_entry told_entry_in
   line_found x line is same = rw loose_found (exact_found (entry_line plan x) (line ++ codes "\n") same) where
-    loose_found : words_entry (names_of plan) (line_words line) ≡ Some x
-    loose_found = ap (words_entry (names_of plan)) (entry_line_of x line is same).words ∙ entry_found x is
+    loose_found : words_entry plan (line_words line) ≡ Some x
+    loose_found = ap (words_entry plan) (entry_line_of x line is same).words ∙ entry_found x is
 
     exact_found : (a b : List ℕ) → a ≡ b → cond (bytes_eq a b) (Some x) None ≡ Some x
     exact_found a b same = rw ((bytes_eq-Decides a b).1 same) refl

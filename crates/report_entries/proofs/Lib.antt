@@ -1,4 +1,5 @@
 pub mod AgainLemmas
+pub mod ApartLemmas
 pub mod BeginLemmas
 pub mod CountLemmas
 pub mod CutLemmas
@@ -7,8 +8,10 @@ pub mod FoundLemmas
 pub mod LaneLemmas
 pub mod MarkLemmas
 pub mod NamedLemmas
+pub mod PlainLemmas
 pub mod ReportFoundLemmas
 pub mod ReportLemmas
+pub mod RowLemmas
 pub mod SmallLemmas
 pub mod ToldLemmas
 pub mod TraceLemmas

@@ -8,9 +8,9 @@ use Rattle.net_base.specs.plan.Accepted.{IsChecked}
 use Rattle.text_lines.specs.Lines.{line_of}
 use Rattle.report_text.specs.Report.{entry_line, entry_lines, entry_words}
 use Rattle.event_laws.specs.Law.{HasNames}
-use Rattle.report_reading.specs.Named.{HasNamesApart, IsEntryNamed}
-use Rattle.report_reading.proofs.ApartLemmas.{names_apart}
-use Rattle.report_reading.proofs.PlainLemmas.{entry_plain}
+use Rattle.report_text.specs.Named.{HasNamesApart, IsEntryNamed}
+use Rattle.report_entries.proofs.ApartLemmas.{names_apart}
+use Rattle.report_entries.proofs.PlainLemmas.{entry_plain}
 use Rattle.read_lines.specs.Plain.{HasWords}
 use Rattle.report_entries.specs.declared.tally.Tally.{Tally}
 use Rattle.report_entries.specs.Cut.{line_words}

@@ -1,5 +1,5 @@
 -- The report of a trace tells this trace.
-use Rattle.std.proofs.Common.{◌≡◌, ◌<◌, ◌≤◌, ◌+◌, ◌^◌, ◌++◌, ◌&&◌, ◌∙◌, ℕ, codes, Bool, true, false, List, [], ◌∷◌, length, Some, None, Ok, cond, count_by, nat_le, refl, sym, ap, arith}
+use Rattle.std.proofs.Common.{◌≡◌, ◌<◌, ◌≤◌, ◌+◌, ◌^◌, ◌++◌, ◌&&◌, ◌∙◌, ℕ, codes, Bool, true, false, List, [], ◌∷◌, length, Some, None, Result, Ok, Err, cond, count_by, nat_le, refl, sym, ap, arith}
 use Rattle.std.proofs.lemmas.List.Sums.{sum_by-cons}
 use Rattle.std.proofs.lemmas.Slice.Eq.{bytes_eq-Decides}
 use Rattle.std.specs.Fmt.{decimal}
@@ -16,9 +16,9 @@ use Rattle.report_text.specs.Report.{counts_words, entry_lines, is_counted, last
 use Rattle.event_laws.specs.Law.{HasNames}
 use Rattle.event_laws.proofs.ValueLemmas.{number_said}
 use Rattle.read_lines.specs.Plain.{HasWords}
-use Rattle.report_reading.specs.Named.{IsToldNumber}
-use Rattle.report_reading.specs.Read.{IsEnding, ReadReport}
-use Rattle.report_reading.proofs.PlainLemmas.{last_plain}
+use Rattle.report_text.specs.Named.{IsToldNumber}
+use Rattle.report_text.specs.Read.{IsEnding, ReadReport}
+use Rattle.report_entries.proofs.PlainLemmas.{last_plain}
 use Rattle.report_entries.specs.declared.tally.Tally.{Tally}
 use Rattle.report_entries.specs.Counted.{tallied, first_counts}
 use Rattle.report_entries.specs.Cut.{line_words}
@@ -200,3 +200,12 @@ unfolding report
 report_told plan text trace checked names is =
     let last = last_told trace is.ending is.reported.few is.reported.ends in
     ap (told_of plan) (sym is.is ∙ ap (λ (l : List ℕ). (codes "vplsnet 1\n" ++ entry_lines plan trace) ++ l) last.is) ∙ report_read plan trace last.line checked names is.reported.named last.free last.right
+
+entries_of : Result (List Entry) ℕ → List Entry
+entries_of (Ok entries) = entries
+entries_of (Err line) = []
+
+-- a text is the report of one trace at most, since it tells it
+pub told_apart : (plan : Plan) (text : List ℕ) (a b : List Entry) → IsChecked plan → HasNames plan → ReadReport plan text a → ReadReport plan text b → a ≡ b
+unfolding entries_of
+told_apart plan text a b checked names first next = ap entries_of (sym (report_told plan text a checked names first) ∙ report_told plan text b checked names next)

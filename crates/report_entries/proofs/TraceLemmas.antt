@@ -6,7 +6,6 @@ use Rattle.std.specs.Str.{bytes_eq}
 use Rattle.net_values.proofs.RowLemmas.{empty_of_test}
 use Rattle.net_base.specs.declared.plan.Plan.{Plan}
 use Rattle.net_base.specs.declared.trace.entry.Entry.{Entry}
-use Rattle.command_text.specs.Planned.{names_of}
 use Rattle.report_text.specs.Report.{entry_line, entry_lines}
 use Rattle.report_entries.specs.declared.tally.Tally.{Tally}
 use Rattle.report_entries.specs.Cut.{before_mark, behind_mark}
@@ -38,7 +37,7 @@ cut_joined mark (c ∷ cs) more is = by (nat_eq c mark) refl is (cut_joined mark
 -- what is read of a line is written so
 pub reads_line : (plan : Plan) (entry : Entry) (line : List ℕ) → line_entry plan line ≡ Some entry → entry_line plan entry ≡ line ++ codes "\n"
 unfolding line_entry
-reads_line plan entry line is = by (told_entry_in (names_of plan) line) is where
+reads_line plan entry line is = by (told_entry_in plan line) is where
   some_same : {x y : Entry} → Some x ≡ Some y → x ≡ y
   some_same e = cc e
 

@@ -1,10 +1,7 @@
 -- Words are found one behind the other.
 use denote.Ref.{Bor}
-use Rattle.std.proofs.Common.{◌≡◌, ◌==◌, ◌<◌, ◌+◌, ◌-◌, ◌++◌, ◌∙◌, ℕ, zero, suc, Bool, true, false, List, [], ◌∷◌, Option, Some, None, length, map, option_map, slice_set, take, unwrap_or, refl, sym, ap, arith, append_assoc}
-use Rattle.std.proofs.lemmas.Bool.Decides.{nat_tests}
+use Rattle.std.proofs.Common.{◌≡◌, ◌<◌, ◌+◌, ◌-◌, ◌++◌, ◌∙◌, ℕ, zero, suc, List, [], ◌∷◌, Option, Some, None, length, map, option_map, slice_set, take, unwrap_or, sym, ap, arith, append_assoc}
 use Rattle.std.proofs.lemmas.List.{map-append, take_more_set}
-use Rattle.std.proofs.lemmas.Slice.Eq.{bytes_eq-Decides}
-use Rattle.std.specs.Str.{bytes_eq}
 use Rattle.report_entries.specs.Cut.{before_mark, behind_mark, words_within}
 
 abbrev octets_now : List (Bor (List ℕ)) → List (List ℕ)
@@ -62,10 +59,3 @@ pub words_put_last : (room : List (Bor (List ℕ))) (word : Bor (List ℕ)) (cou
 words_put_last room word count most rest behind whole few size front back none same =
     words_end (take count room) (take (count + 1) (slice_set room count word)) word (most - count) rest behind whole (omega (arith, few))
     (take_more_set room count word (omega (arith, few, size))) front back none same
-
--- words of two lengths are two
-pub other_length : (a b : List ℕ) → (length a == length b) ≡ false → bytes_eq a b ≡ false
-other_length a b other = by (bytes_eq a b) refl where
-  by : (c : Bool) → bytes_eq a b ≡ c → c ≡ false
-  by false is = refl
-  by true is = absurd (grind (arith, nat_tests, other, ap (λ (l : List ℕ). length l) ((bytes_eq-Decides a b).0 is)))

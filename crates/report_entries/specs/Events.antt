@@ -1,44 +1,55 @@
--- The events that lines of a report tell, by their words. Their numbers are in the ranges in which a scenario writes them; a frame has at
--- most as many octets as a record of a capture, and may have none.
-use Rattle.std.specs.Prelude.{nat_le, codes, ℕ, List, [], ◌∷◌, length, Option, Some, None, if◌then◌else◌}
+-- The events that lines of a report tell: a row for each, and the event that its values make. Their numbers are in the ranges in which a
+-- scenario writes them. A frame has at most as many octets as a record of a capture, and may have none; it is no row, since octets are no number.
+use Rattle.std.specs.Prelude.{◌==◌, nat_le, codes, ℕ, List, [], ◌∷◌, length, Option, Some, None, if◌then◌else◌}
 use Rattle.std.specs.Str.{bytes_eq}
+use Rattle.net_base.specs.declared.plan.Plan.{Plan}
 use Rattle.net_base.specs.declared.trace.event.Event.{Event}
-use Rattle.net_base.specs.declared.trace.event.Event.TheVariants.{Connect, Deliver, Lose, Restart, Tick, Frame, Arrive, Discard, Again, Wire, Circuit, Status, Priority, Ping}
+use Rattle.net_base.specs.declared.trace.event.Event.TheVariants as event
+use Rattle.command_text.specs.Planned.{names_of}
 use Rattle.command_text.specs.declared.plan_names.PlanNames.{PlanNames}
-use Rattle.command_text.specs.Words.{decimal_from}
-use Rattle.report_entries.specs.Reading.{◌>>=◌, circuit_of_word, edge_of_word, digits_told, switch_in, wire_of_word}
+use Rattle.report_text.specs.declared.choice.Choice.TheVariants.{Switch}
+use Rattle.line_shapes.specs.Shapes.{Form, form, line_said, told_by, value_at}
+use Rattle.line_shapes.specs.declared.kind.Kind.TheVariants.{Edge, Circuit, Wire, Number, OneOf}
+use Rattle.report_entries.specs.Reading.{◌>>=◌, circuit_of_word, digits_told}
 
-unfoldable pub connect_told : PlanNames → List (List ℕ) → Option Event
-connect_told names (from ∷ to ∷ []) = do
-  from ← edge_of_word names from
-  to ← edge_of_word names to
-  Some (Connect from to)
-connect_told names words = None
+-- the rows
+abbrev pub event_forms : List Form
+event_forms =
+    form (codes "deliver") (Edge ∷ Edge ∷ Number 1 65535 ∷ [])
+    ∷ form (codes "arrive") (Number 1 18446744073709551615 ∷ [])
+    ∷ form (codes "drop") (Number 1 18446744073709551615 ∷ [])
+    ∷ form (codes "again") (Number 1 18446744073709551615 ∷ [])
+    ∷ form (codes "connect") (Edge ∷ Edge ∷ [])
+    ∷ form (codes "lose") (Edge ∷ Edge ∷ [])
+    ∷ form (codes "restart") (Edge ∷ [])
+    ∷ form (codes "tick") []
+    ∷ form (codes "wire") (Edge ∷ Wire ∷ OneOf Switch ∷ [])
+    ∷ form (codes "circuit") (Circuit ∷ OneOf Switch ∷ [])
+    ∷ form (codes "status") (Edge ∷ Wire ∷ Number 0 31 ∷ [])
+    ∷ form (codes "priority") (Edge ∷ Wire ∷ Number 0 255 ∷ [])
+    ∷ form (codes "ping") (Edge ∷ Wire ∷ [])
+    ∷ []
 
-unfoldable pub deliver_told : PlanNames → List (List ℕ) → Option Event
-deliver_told names (from ∷ to ∷ count ∷ []) = do
-  from ← edge_of_word names from
-  to ← edge_of_word names to
-  count ← decimal_from 1 65535 count
-  Some (Deliver from to count)
-deliver_told names words = None
+-- the event of a row and its values
+abbrev pub event_made : ℕ → List ℕ → Event
+event_made row v =
+    if row == 0 then event.Deliver (record { 0 = value_at 0 v }) (record { 0 = value_at 1 v }) (value_at 2 v)
+    else if row == 1 then event.Arrive (value_at 0 v)
+    else if row == 2 then event.Discard (value_at 0 v)
+    else if row == 3 then event.Again (value_at 0 v)
+    else if row == 4 then event.Connect (record { 0 = value_at 0 v }) (record { 0 = value_at 1 v })
+    else if row == 5 then event.Lose (record { 0 = value_at 0 v }) (record { 0 = value_at 1 v })
+    else if row == 6 then event.Restart (record { 0 = value_at 0 v })
+    else if row == 7 then event.Tick
+    else if row == 8 then event.Wire (record { 0 = value_at 0 v }) (record { 0 = value_at 1 v }) (value_at 2 v == 1)
+    else if row == 9 then event.Circuit (record { 0 = value_at 0 v }) (value_at 1 v == 1)
+    else if row == 10 then event.Status (record { 0 = value_at 0 v }) (record { 0 = value_at 1 v }) (value_at 2 v)
+    else if row == 11 then event.Priority (record { 0 = value_at 0 v }) (record { 0 = value_at 1 v }) (value_at 2 v)
+    else event.Ping (record { 0 = value_at 0 v }) (record { 0 = value_at 1 v })
 
-unfoldable pub lose_told : PlanNames → List (List ℕ) → Option Event
-lose_told names (edge ∷ peer ∷ []) = do
-  edge ← edge_of_word names edge
-  peer ← edge_of_word names peer
-  Some (Lose edge peer)
-lose_told names words = None
-
-unfoldable pub restart_told : PlanNames → List (List ℕ) → Option Event
-restart_told names (edge ∷ []) = do
-  edge ← edge_of_word names edge
-  Some (Restart edge)
-restart_told names words = None
-
-unfoldable pub tick_told : List (List ℕ) → Option Event
-tick_told [] = Some Tick
-tick_told words = None
+-- the event of words, by their row
+unfoldable pub row_event : Plan → List (List ℕ) → Option Event
+row_event plan words = told_by event_made (line_said plan event_forms words)
 
 -- a frame of a capture has at most so many octets
 abbrev pub of_record_size : List ℕ → Option (List ℕ)
@@ -49,82 +60,10 @@ frame_told names (circuit ∷ octets ∷ []) = do
   circuit ← circuit_of_word names circuit
   octets ← digits_told octets
   octets ← of_record_size octets
-  Some (Frame circuit octets)
+  Some (event.Frame circuit octets)
 frame_told names words = None
 
--- the number of a packet
-unfoldable pub packet_named : List (List ℕ) → Option ℕ
-packet_named (packet ∷ []) = decimal_from 1 18446744073709551615 packet
-packet_named words = None
-
-unfoldable pub wire_switch_told : PlanNames → List (List ℕ) → Option Event
-wire_switch_told names (edge ∷ wire ∷ on ∷ []) = do
-  edge ← edge_of_word names edge
-  wire ← wire_of_word names wire
-  on ← switch_in on
-  Some (Wire edge wire on)
-wire_switch_told names words = None
-
-unfoldable pub circuit_switch_told : PlanNames → List (List ℕ) → Option Event
-circuit_switch_told names (circuit ∷ on ∷ []) = do
-  circuit ← circuit_of_word names circuit
-  on ← switch_in on
-  Some (Circuit circuit on)
-circuit_switch_told names words = None
-
-unfoldable pub status_told : PlanNames → List (List ℕ) → Option Event
-status_told names (edge ∷ wire ∷ bits ∷ []) = do
-  edge ← edge_of_word names edge
-  wire ← wire_of_word names wire
-  bits ← decimal_from 0 31 bits
-  Some (Status edge wire bits)
-status_told names words = None
-
-unfoldable pub priority_told : PlanNames → List (List ℕ) → Option Event
-priority_told names (edge ∷ wire ∷ priority ∷ []) = do
-  edge ← edge_of_word names edge
-  wire ← wire_of_word names wire
-  priority ← decimal_from 0 255 priority
-  Some (Priority edge wire priority)
-priority_told names words = None
-
-unfoldable pub ping_told : PlanNames → List (List ℕ) → Option Event
-ping_told names (edge ∷ wire ∷ []) = do
-  edge ← edge_of_word names edge
-  wire ← wire_of_word names wire
-  Some (Ping edge wire)
-ping_told names words = None
-
--- the event of a first word that names a part of the plan
-unfoldable pub part_event_in : PlanNames → List ℕ → List (List ℕ) → Option Event
-part_event_in names kind words =
-    if bytes_eq kind (codes "wire") then wire_switch_told names words
-    else if bytes_eq kind (codes "circuit") then circuit_switch_told names words
-    else if bytes_eq kind (codes "status") then status_told names words
-    else if bytes_eq kind (codes "priority") then priority_told names words
-    else if bytes_eq kind (codes "ping") then ping_told names words
-    else None
-
--- or one that speaks of connections or of time
-unfoldable pub connection_event_in : PlanNames → List ℕ → List (List ℕ) → Option Event
-connection_event_in names kind words =
-    if bytes_eq kind (codes "connect") then connect_told names words
-    else if bytes_eq kind (codes "deliver") then deliver_told names words
-    else if bytes_eq kind (codes "lose") then lose_told names words
-    else if bytes_eq kind (codes "restart") then restart_told names words
-    else if bytes_eq kind (codes "tick") then tick_told words
-    else part_event_in names kind words
-
--- or one that speaks of a frame or a packet
-unfoldable pub frame_event_told : PlanNames → List ℕ → List (List ℕ) → Option Event
-frame_event_told names kind words =
-    if bytes_eq kind (codes "frame") then frame_told names words
-    else if bytes_eq kind (codes "arrive") then packet_named words >>= (λ packet. Some (Arrive packet))
-    else if bytes_eq kind (codes "drop") then packet_named words >>= (λ packet. Some (Discard packet))
-    else if bytes_eq kind (codes "again") then packet_named words >>= (λ packet. Some (Again packet))
-    else connection_event_in names kind words
-
 -- the event that these words tell
-abbrev pub event_told : PlanNames → List (List ℕ) → Option Event
-event_told names [] = None
-event_told names (kind ∷ words) = frame_event_told names kind words
+abbrev pub event_told : Plan → List (List ℕ) → Option Event
+event_told plan [] = None
+event_told plan (kind ∷ words) = if bytes_eq kind (codes "frame") then frame_told (names_of plan) words else row_event plan (kind ∷ words)

@@ -5,8 +5,8 @@ use Rattle.net_base.specs.declared.plan.Plan.{Plan}
 use Rattle.net_base.specs.declared.trace.entry.Entry.{Entry}
 use Rattle.net_base.specs.plan.Accepted.{IsChecked}
 use Rattle.event_laws.specs.Law.{HasNames}
-use Rattle.report_reading.specs.Named.{IsEntryNamed}
-use Rattle.report_reading.specs.Read.{ReadReport}
+use Rattle.report_text.specs.Named.{IsEntryNamed}
+use Rattle.report_text.specs.Read.{ReadReport}
 use Rattle.report_text.specs.Report.{entry_line, entry_lines}
 use Rattle.report_entries.specs.declared.tally.Tally.{Tally}
 use Rattle.report_entries.specs.Counted.{tallied, first_counts}
@@ -52,3 +52,7 @@ ReportsAreRead = (plan : Plan) (trace : List Entry) (last : List ℕ) → IsChec
 -- a text that is the report of a trace tells this trace
 abbrev pub ReportsAreTold : Type 0
 ReportsAreTold = (plan : Plan) (text : List ℕ) (trace : List Entry) → IsChecked plan → HasNames plan → ReadReport plan text trace → told_of plan text ≡ Ok trace
+
+-- entries that name places of one checked plan are the same where the lines of their reports are
+abbrev pub ReportsAreToldApart : Type 0
+ReportsAreToldApart = (plan : Plan) (text : List ℕ) (a b : List Entry) → IsChecked plan → HasNames plan → ReadReport plan text a → ReadReport plan text b → a ≡ b

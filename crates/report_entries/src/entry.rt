@@ -1,28 +1,22 @@
 //! The entries that lines tell.
-ghost use Rattle.std.specs.Prelude.{◌≡◌, map};
-ghost use Rattle.report_entries.specs.Entries.{aged_in, copied_in, did_in, dropped_in, entered_in, told_entry_of, idle_in, left_in, packet_told_in, pong_in, said_in, sent_in, session_in, answer_told, wire_told_in, words_entry};
+ghost use Rattle.std.specs.Prelude.{◌≡◌, ◌<◌, map};
+ghost use Rattle.command_text.specs.Planned.{names_of};
+ghost use Rattle.line_shapes.specs.Shapes.{AreFit, AreSmall, form_at, form_of};
+ghost use Rattle.report_entries.specs.Entries.{did_in, entered_in, entry_forms, entry_made, left_in, row_entry, said_in, sent_in, words_entry};
 ghost use Rattle.report_entries.specs.Reading.{Reads};
 
 use crate::Unread;
 use crate::event::event;
 use crate::passed::{Carried, Passed, read_carried, read_passed};
-use crate::values::{
-    cause, circuit, edge, is_word, number, octets, sequence, state, wire, wire_end,
-};
+use crate::told_words::ToldWords;
+use crate::values::{circuit, edge, number, octets};
 use command_text::PlanNames;
-use net_base::Entry;
+use line_shapes::Kind::{Edge, Number, OneOf, Wire};
+use line_shapes::{Shape, Values, is_word, read_shaped};
+use net_base::{Entry, Plan};
+use report_text::Choice::{Cause, End, State};
+use report_text::{cause_at, end_at, state_at};
 use std::alloc::Global;
-
-// `idle`.
-#[tactic(auto, unfolding(crate::specs::Entries::idle_in))]
-fn idle(words: &[&[u8]]) -> Result<Entry, Unread>
-    ensures { Reads result (idle_in (map (λ w. w.now) words.now)) }
-{
-    match words {
-        [] => Ok(Entry::Idle),
-        _ => Err(Unread::NoEntry),
-    }
-}
 
 // Octets that an edge put towards a peer.
 #[tactic(auto, unfolding(crate::specs::Entries::said_in))]
@@ -95,35 +89,6 @@ fn sent(alloc: Global, names: &PlanNames<'_>, words: &[&[u8]]) -> Result<Entry, 
     }
 }
 
-// A packet that came a second time.
-#[tactic(auto, unfolding(crate::specs::Entries::copied_in))]
-fn copied(words: &[&[u8]]) -> Result<Entry, Unread>
-    ensures { Reads result (copied_in (map (λ w. w.now) words.now)) }
-{
-    match words {
-        [packet, of] => {
-            let packet = number(packet)?;
-            let of = number(of)?;
-            Ok(Entry::Copied { packet, of })
-        }
-        _ => Err(Unread::NoEntry),
-    }
-}
-
-// A packet that grew too old.
-#[tactic(auto, unfolding(crate::specs::Entries::aged_in))]
-fn aged(words: &[&[u8]]) -> Result<Entry, Unread>
-    ensures { Reads result (aged_in (map (λ w. w.now) words.now)) }
-{
-    match words {
-        [packet] => match number(packet) {
-            Ok(packet) => Ok(Entry::Aged { packet }),
-            Err(fault) => Err(fault),
-        },
-        _ => Err(Unread::NoEntry),
-    }
-}
-
 // A frame that left.
 #[tactic(auto, unfolding(crate::specs::Entries::left_in))]
 fn left(alloc: Global, names: &PlanNames<'_>, words: &[&[u8]]) -> Result<Entry, Unread>
@@ -148,166 +113,110 @@ fn left(alloc: Global, names: &PlanNames<'_>, words: &[&[u8]]) -> Result<Entry, 
     }
 }
 
-// A drop.
-#[tactic(auto, unfolding(crate::specs::Entries::dropped_in))]
-fn dropped(names: &PlanNames<'_>, words: &[&[u8]]) -> Result<Entry, Unread>
-    ensures { Reads result (dropped_in names.now (map (λ w. w.now) words.now)) }
+// The shape of each entry without octets.
+fn entry_shapes() -> &'static [Shape<'static>]
+    ensures { map form_of result.now ≡ entry_forms }
 {
-    match words {
-        [at, origin, why] => {
-            let at = edge(names, at)?;
-            let origin = number(origin)?;
-            let why = cause(why)?;
-            Ok(Entry::Dropped {
-                edge: at,
-                origin,
-                cause: why,
-            })
-        }
-        _ => Err(Unread::NoEntry),
+    &[
+        Shape(b"idle", &[]),
+        Shape(b"session", &[Edge, Edge, OneOf(State)]),
+        Shape(b"wire", &[Edge, Wire, OneOf(End)]),
+        Shape(b"dropped", &[Edge, Number(0, u64::MAX), OneOf(Cause)]),
+        Shape(b"copied", &[Number(0, u64::MAX), Number(0, u64::MAX)]),
+        Shape(b"aged", &[Number(0, u64::MAX)]),
+        Shape(b"pong", &[Edge, Wire, Number(0, 65535)]),
+    ]
+}
+
+// The entry of a row and its values.
+fn entry_made(plan: &Plan, row: usize, values: &Values) -> Entry
+    requires row { row < 7 }
+    requires fit { AreFit plan.now (form_at entry_forms row).kinds values.now }
+    requires small { AreSmall (form_at entry_forms row).kinds values.now }
+    ensures { result ≡ entry_made row values.now }
+{
+    match row {
+        0 => Entry::Idle,
+        1 => Entry::Session {
+            edge: values.edge(0),
+            peer: values.edge(1),
+            state: state_at(values.at(2)),
+        },
+        2 => Entry::Wire {
+            edge: values.edge(0),
+            wire: values.wire(1),
+            down: end_at(values.at(2)),
+        },
+        3 => Entry::Dropped {
+            edge: values.edge(0),
+            origin: values.at(1),
+            cause: cause_at(values.at(2)),
+        },
+        4 => Entry::Copied {
+            packet: values.at(0),
+            of: values.at(1),
+        },
+        5 => Entry::Aged {
+            packet: values.at(0),
+        },
+        _ => Entry::Pong {
+            edge: values.edge(0),
+            wire: values.wire(1),
+            sequence: values.at(2) as u16,
+        },
     }
 }
 
-// A session that moved to a state.
-#[tactic(auto, unfolding(crate::specs::Entries::session_in))]
-fn session(names: &PlanNames<'_>, words: &[&[u8]]) -> Result<Entry, Unread>
-    ensures { Reads result (session_in names.now (map (λ w. w.now) words.now)) }
+// The entry of words, by their row.
+#[tactic(auto, unfolding(crate::specs::Entries::row_entry))]
+fn row_entry(plan: &Plan, names: &PlanNames<'_>, words: &[&[u8]]) -> Result<Entry, Unread>
+    requires names { names.now ≡ names_of plan.now }
+    ensures { Reads result (row_entry plan.now (map (λ w. w.now) words.now)) }
 {
-    match words {
-        [at, peer, name] => {
-            let at = edge(names, at)?;
-            let peer = edge(names, peer)?;
-            let name = state(name)?;
-            Ok(Entry::Session {
-                edge: at,
-                peer,
-                state: name,
-            })
-        }
-        _ => Err(Unread::NoEntry),
-    }
-}
-
-// An end of a wire that has come up, or is down for a cause.
-#[tactic(auto, unfolding(crate::specs::Entries::wire_told_in))]
-fn wire_told(names: &PlanNames<'_>, words: &[&[u8]]) -> Result<Entry, Unread>
-    ensures { Reads result (wire_told_in names.now (map (λ w. w.now) words.now)) }
-{
-    match words {
-        [at, of, down] => {
-            let at = edge(names, at)?;
-            let of = wire(names, of)?;
-            let down = wire_end(down)?;
-            Ok(Entry::Wire {
-                edge: at,
-                wire: of,
-                down,
-            })
-        }
-        _ => Err(Unread::NoEntry),
-    }
-}
-
-// An answer to a ping.
-#[tactic(auto, unfolding(crate::specs::Entries::pong_in))]
-fn pong(names: &PlanNames<'_>, words: &[&[u8]]) -> Result<Entry, Unread>
-    ensures { Reads result (pong_in names.now (map (λ w. w.now) words.now)) }
-{
-    match words {
-        [at, of, count] => {
-            let at = edge(names, at)?;
-            let of = wire(names, of)?;
-            let count = sequence(count)?;
-            Ok(Entry::Pong {
-                edge: at,
-                wire: of,
-                sequence: count,
-            })
-        }
-        _ => Err(Unread::NoEntry),
-    }
-}
-
-// The entry of a first word that tells of a session, a wire or an answer.
-#[tactic(auto, unfolding(crate::specs::Entries::answer_told))]
-fn told(alloc: Global, names: &PlanNames<'_>, kind: &[u8], words: &[&[u8]]) -> Result<Entry, Unread>
-    ensures { Reads result (answer_told names.now kind.now (map (λ w. w.now) words.now)) }
-{
-    if is_word(kind, "said") {
-        said(alloc, names, words)
-    } else if is_word(kind, "session") {
-        session(names, words)
-    } else if is_word(kind, "wire") {
-        wire_told(names, words)
-    } else if is_word(kind, "pong") {
-        pong(names, words)
-    } else if is_word(kind, "idle") {
-        idle(words)
-    } else {
-        Err(Unread::NoEntry)
-    }
-}
-
-// Or of a packet.
-#[tactic(auto, unfolding(crate::specs::Entries::packet_told_in))]
-fn packet_told(
-    alloc: Global,
-    names: &PlanNames<'_>,
-    kind: &[u8],
-    words: &[&[u8]],
-) -> Result<Entry, Unread>
-    ensures { Reads result (packet_told_in names.now kind.now (map (λ w. w.now) words.now)) }
-{
-    if is_word(kind, "sent") {
-        sent(alloc, names, words)
-    } else if is_word(kind, "dropped") {
-        dropped(names, words)
-    } else if is_word(kind, "copied") {
-        copied(words)
-    } else if is_word(kind, "aged") {
-        aged(words)
-    } else {
-        told(alloc, names, kind, words)
+    match read_shaped(plan, names, entry_shapes(), &ToldWords { words }) {
+        Ok((row, values)) => Ok(entry_made(plan, row, &values)),
+        Err(_) => Err(Unread::NoEntry),
     }
 }
 
 // An event that was done.
-fn did(alloc: Global, names: &PlanNames<'_>, words: &[&[u8]]) -> Result<Entry, Unread>
-    ensures { Reads result (did_in names.now (map (λ w. w.now) words.now)) }
+fn did(alloc: Global, plan: &Plan, names: &PlanNames<'_>, words: &[&[u8]]) -> Result<Entry, Unread>
+    requires names { names.now ≡ names_of plan.now }
+    ensures { Reads result (did_in plan.now (map (λ w. w.now) words.now)) }
 {
-    match event(alloc, names, words) {
+    match event(alloc, plan, names, words) {
         Ok(event) => Ok(Entry::Did { event }),
         Err(fault) => Err(fault),
     }
 }
 
-// Or of an event or a frame.
+/// The entry that the words of a line tell.
 #[tactic(auto, unfolding(crate::specs::Entries::told_entry_of))]
-fn entry_of_kind(
+pub fn words_entry(
     alloc: Global,
+    plan: &Plan,
     names: &PlanNames<'_>,
-    kind: &[u8],
     words: &[&[u8]],
 ) -> Result<Entry, Unread>
-    ensures { Reads result (told_entry_of names.now kind.now (map (λ w. w.now) words.now)) }
-{
-    if is_word(kind, ">") {
-        did(alloc, names, words)
-    } else if is_word(kind, "in") {
-        entered(alloc, names, words)
-    } else if is_word(kind, "left") {
-        left(alloc, names, words)
-    } else {
-        packet_told(alloc, names, kind, words)
-    }
-}
-
-/// The entry that the words of a line tell.
-pub fn words_entry(alloc: Global, names: &PlanNames<'_>, words: &[&[u8]]) -> Result<Entry, Unread>
-    ensures { Reads result (words_entry names.now (map (λ w. w.now) words.now)) }
+    requires names { names.now ≡ names_of plan.now }
+    ensures { Reads result (words_entry plan.now (map (λ w. w.now) words.now)) }
 {
     match words {
-        [kind, words @ ..] => entry_of_kind(alloc, names, kind, words),
+        [kind, behind @ ..] => {
+            if is_word(kind, ">") {
+                did(alloc, plan, names, behind)
+            } else if is_word(kind, "in") {
+                entered(alloc, names, behind)
+            } else if is_word(kind, "left") {
+                left(alloc, names, behind)
+            } else if is_word(kind, "sent") {
+                sent(alloc, names, behind)
+            } else if is_word(kind, "said") {
+                said(alloc, names, behind)
+            } else {
+                row_entry(plan, names, words)
+            }
+        }
         [] => Err(Unread::NoEntry),
     }
 }

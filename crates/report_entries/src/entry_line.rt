@@ -1,7 +1,7 @@
 //! The entry that a line tells.
 ghost use Rattle.std.specs.Prelude.{◌≡◌, map, IfOk};
 ghost use Rattle.command_text.specs.Planned.{names_of};
-ghost use Rattle.report_reading.specs.Named.{IsEntryNamed};
+ghost use Rattle.report_text.specs.Named.{IsEntryNamed};
 ghost use Rattle.report_entries.specs.{Answers.{Finds}, Cut.{line_words}, Entries.{line_entry}, Reading.{Reads}, Report.{found_on_line}};
 
 use crate::entry::words_entry;
@@ -23,7 +23,7 @@ fn told_entry(
     requires words { map (λ w. w.now) words.now ≡ line_words line.now }
     ensures { Reads result (line_entry plan.now line.now) }
 {
-    words_entry(alloc, names, words)
+    words_entry(alloc, plan, names, words)
 }
 
 // What is read names places of the plan.

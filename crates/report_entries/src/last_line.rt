@@ -5,7 +5,7 @@ ghost use Rattle.report_entries.specs.{Cut.{line_words}, Report.{ends_report, is
 
 use crate::line_writer::LineWriter;
 use crate::tally::Tally;
-use crate::values::is_word;
+use line_shapes::is_word;
 use net_base::{Failed, NoMemory};
 
 // Whether all are digits.

@@ -1,5 +1,5 @@
 //! A text is read as the trace of which it is the report.
-ghost use Rattle.report_entries.specs.Laws.{LinesAreRead, LinesNamePlaces, ReadsLines, ReportsAreRead, ReportsAreTold, TracesAreTold};
+ghost use Rattle.report_entries.specs.Laws.{LinesAreRead, LinesNamePlaces, ReadsLines, ReportsAreRead, ReportsAreTold, ReportsAreToldApart, TracesAreTold};
 
 /// The line of an entry that names places of a checked plan is read as this entry.
 pub fn lines_are_read()
@@ -29,4 +29,10 @@ pub fn traces_are_told()
 /// A text that is the report of a trace tells this trace.
 pub fn reports_are_told()
     ensures { ReportsAreTold }
+{}
+
+/// A text is the report of one trace at most: traces whose entries name places of one checked plan are the same where the lines of
+/// their reports are.
+pub fn reports_are_told_apart()
+    ensures { ReportsAreToldApart }
 {}

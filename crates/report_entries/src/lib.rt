@@ -16,12 +16,13 @@ mod passed;
 mod report_fault;
 mod report_reader;
 mod tally;
+mod told_words;
 mod unread;
 mod values;
 
 pub use laws::{
     lines_are_read, lines_name_places, reads_lines, reports_are_read, reports_are_told,
-    traces_are_told,
+    reports_are_told_apart, traces_are_told,
 };
 pub use report_fault::ReportFault;
 pub use report_reader::ReportReader;

@@ -1,7 +1,7 @@
 //! Reading a report line by line.
 ghost use Rattle.std.specs.Prelude.{◌≡◌, ◌<◌, ◌≤◌, ◌+◌, ◌^◌, [], length, IfOk, IfSome, OnOk};
 ghost use Rattle.command_text.specs.Planned.{names_of};
-ghost use Rattle.report_reading.specs.Named.{IsEntryNamed};
+ghost use Rattle.report_text.specs.Named.{IsEntryNamed};
 ghost use Rattle.report_entries.specs.{Answers.{Begins, ReportGoesOn}, Counted.{AreTallied}};
 
 use crate::ReportFault;
@@ -10,8 +10,8 @@ use crate::entry_line::entry_at;
 use crate::last_line::is_last_line;
 use crate::line_writer::LineWriter;
 use crate::tally::Tally;
-use crate::values::is_word;
 use command_text::PlanNames;
+use line_shapes::is_word;
 use net_base::{Entry, Plan};
 use std::alloc::Global;
 use std::marker::Model;

@@ -10,7 +10,7 @@ use Rattle.flight_laws.specs.Laws.{IsRun}
 use Rattle.command_text.specs.declared.command.Command.{Command}
 use Rattle.command_run.specs.Made.{made}
 use Rattle.report_text.specs.declared.ending.Ending.{Ending}
-use Rattle.report_reading.specs.Read.{IsEnding, IsReported}
+use Rattle.report_text.specs.Read.{IsEnding, IsReported}
 use Rattle.report_laws.specs.Places.{CommandsFromOne, CountsFromOne, IsEntryOf}
 use Rattle.report_laws.specs.Types.{IsTypedEntry}
 

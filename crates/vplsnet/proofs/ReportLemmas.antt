@@ -19,7 +19,7 @@ use Rattle.scenario_text.specs.declared.scenario.Scenario.{Scenario}
 use Rattle.scenario_text.specs.Document.{document}
 use Rattle.event_laws.specs.Law.{IsEventInRange}
 use Rattle.report_text.specs.Report.{report}
-use Rattle.report_reading.specs.Read.{IsEnding, IsReported}
+use Rattle.report_text.specs.Read.{IsEnding, IsReported}
 use Rattle.report_entries.proofs.ToldLemmas.{report_told}
 use Rattle.report_laws.specs.Laws.{IsTypedTrace}
 use Rattle.report_laws.specs.Places.{CommandsFromOne, CountsFromOne}

@@ -15,7 +15,7 @@ use Rattle.net_values.proofs.RowLemmas.{octets_unlike}
 use Rattle.report_text.specs.Words.{circuit_name, wire_name}
 use Rattle.event_laws.specs.Law.{HasNames}
 use Rattle.event_laws.proofs.ValueLemmas.{row_name}
-use Rattle.report_reading.specs.Named.{HasNamesApart, IsCircuit, IsWire}
+use Rattle.report_text.specs.Named.{HasNamesApart, IsCircuit, IsWire}
 
 -- of two lists one behind the other
 across : (a b : List (List ℕ)) (i j : ℕ) → NonePair bytes_eq (a ++ b) → i < length a → j < length b → bytes_eq (get_or a i []) (get_or b j []) ≡ false
