@@ -1,7 +1,7 @@
 pub mod CalmLemmas
 pub mod ClosingLemmas
 pub mod DueLemmas
-pub mod EntryLemmas
+pub mod DuringLemmas
 pub mod ExitLemmas
 pub mod LastingLemmas
 pub mod LossLemmas

@@ -7,11 +7,11 @@ use Rattle.net_base.specs.declared.trace.entry.Entry.{Entry}
 use Rattle.net_base.specs.declared.trace.entry.Entry.TheVariants as entry
 use Rattle.net_base.specs.declared.trace.event.Event.{Event}
 use Rattle.net_base.specs.declared.trace.event.Event.TheVariants.{Frame}
-use Rattle.seen_network.specs.Once.{entered_as}
 use Rattle.seen_network.specs.Seen.{seen_in}
 use Rattle.seen_network.specs.EventEntries.{entered_place}
 use Rattle.seen_network.specs.Windows.{Describes, HasOpened, IsOpened, Opens, OpensOne}
 use Rattle.seen_network.specs.declared.window.Window.{Window}
+use Rattle.window_audit.specs.During.{IsFirst}
 use Rattle.window_audit.specs.Opening.{OpensWith}
 use Rattle.window_audit.specs.Past.{FrameOpens}
 use Rattle.window_audit.specs.declared.opening.Opening.{Opening}
@@ -39,8 +39,8 @@ place_within circuit (entry.Pong edge wire sequence ∷ es) = omega (arith, plac
 
 -- ---- a frame at a circuit
 
-pub none_entered : (plan : Plan) (before : List Entry) (circuit : CircuitId) (octets : List ℕ) (rest : List Entry) → entered_as circuit rest ≡ None → FrameOpens plan before circuit octets rest None
-none_entered plan before circuit octets rest none service origin opened = cc (sym none ∙ opened.entered)
+pub none_entered : (plan : Plan) (before : List Entry) (circuit : CircuitId) (octets : List ℕ) (rest : List Entry) → IsFirst circuit rest None → FrameOpens plan before circuit octets rest None
+none_entered plan before circuit octets rest first service origin opened = absurd (cc (first.number ∙ opened.entered))
 
 pub none_may : (plan : Plan) (before : List Entry) (circuit : CircuitId) (octets : List ℕ) (rest : List Entry) → OpensWith plan (seen_in before) circuit octets None
     → FrameOpens plan before circuit octets rest None
@@ -48,20 +48,20 @@ none_may plan before circuit octets rest none service origin opened =
     none service (record { sender = opened.sender; on = opened.on; formed = record { frame = opened.frame; formed = opened.formed }; calm = opened.calm })
 
 pub one_opens : (plan : Plan) (before : List Entry) (circuit : CircuitId) (octets : List ℕ) (rest : List Entry) (origin place ahead : ℕ) (opening : Opening)
-    → entered_as circuit rest ≡ Some origin → ahead ≡ entered_place circuit rest → place ≡ length before → OpensWith plan (seen_in before) circuit octets (Some opening)
+    → IsFirst circuit rest (Some (origin, ahead)) → place ≡ length before → OpensWith plan (seen_in before) circuit octets (Some opening)
     → FrameOpens plan before circuit octets rest (Some (record {
-      place = place + (1 + ahead);
+      place = place + ahead;
       sender = circuit;
       service = opening.service;
       origin = origin;
       destination = opening.destination;
       sites = opening.sites;
     }))
-one_opens plan before circuit octets rest origin place ahead opening entered counted at opens = record {
+one_opens plan before circuit octets rest origin place ahead opening first at opens = record {
   service = opening.service;
   origin = origin;
-  opened = record { entered = entered; sender = opens.0.sender; on = opens.0.on; frame = opens.0.formed.frame; formed = opens.0.formed.formed; calm = opens.0.calm };
-  describes = record { place = (λ i. at i + (1 + counted i)); sender = refl; service_is = refl; origin_is = refl; goes = opens.1; sites = opens.2 };
+  opened = record { entered = sym first.number; sender = opens.0.sender; on = opens.0.on; frame = opens.0.formed.frame; formed = opens.0.formed.formed; calm = opens.0.calm };
+  describes = record { place = (λ i. at i + first.place i); sender = refl; service_is = refl; origin_is = refl; goes = opens.1; sites = opens.2 };
 }
 
 -- ---- the event

@@ -1,5 +1,5 @@
 pub mod CalmMemory
-pub mod EventEntries
+pub mod During
 pub mod Exits
 pub mod Lasting
 pub mod Losses

@@ -1,21 +1,19 @@
 -- What is known behind the events that are over.
-use Rattle.std.specs.Prelude.{◌≡◌, ◌≤◌, ℕ, List, [], ◌∷◌, Option, Some, None, length}
+use Rattle.std.specs.Prelude.{◌≡◌, ◌≤◌, ℕ, List, Option, Some, None}
 use Rattle.net_base.specs.declared.plan.Plan.{Plan}
 use Rattle.net_base.specs.declared.plan.places.CircuitId.{CircuitId}
 use Rattle.net_base.specs.declared.plan.places.ServiceId.{ServiceId}
 use Rattle.net_base.specs.declared.trace.entry.Entry.{Entry}
-use Rattle.net_base.specs.declared.trace.entry.Entry.TheVariants.{Did}
+use Rattle.net_base.specs.declared.trace.event.Event.{Event}
+use Rattle.net_base.specs.declared.trace.event.Event.TheVariants.{Frame}
 use Rattle.seen_network.specs.Seen.{seen_in}
 use Rattle.seen_state.specs.SeenState.{Knows}
 use Rattle.seen_state.specs.Sight.{sizes_of}
-use Rattle.seen_network.specs.EventEntries.{HasNoEvent}
 use Rattle.seen_network.specs.Windows.{AreOwed, Describes, HasOpened}
 use Rattle.seen_network.specs.declared.window.Window.{Window}
 use Rattle.window_audit.specs.CalmMemory.{Remembers}
-use Rattle.window_audit.specs.Exits.{HasExits, IsAtPort}
+use Rattle.window_audit.specs.During.{IsFirst}
 use Rattle.window_audit.specs.Lasting.{AreLasting, windows_at}
-use Rattle.window_audit.specs.Losses.{AreWithin}
-use Rattle.window_audit.specs.Sources.{HasSources}
 use Rattle.window_audit.specs.declared.past.Past.{Past}
 
 -- what is known of windows behind entries
@@ -30,30 +28,9 @@ pub record IsPastOf (plan : Plan) (past : Past) : Type 0 where
   pub sizes : past.state.sight.sizes ≡ sizes_of plan
   pub few : past.state.copies.comings ≤ past.place
 
--- what is known behind entries
-pub record HasSeen (plan : Plan) (trace : List Entry) (past : Past) : Type 0 where
-  pub place : past.place ≡ length trace
-  pub state : Knows past.state (seen_in trace)
-  pub calm : Remembers plan (seen_in trace) past.calm
-  pub sources : HasSources plan past.sources trace
-  pub exits : HasExits past.exits trace
-  pub lasting : AreLasting plan trace (windows_at past.lasting)
-  pub owed : AreOwed plan trace past.owed.items
-
--- each of these entries speaks of what is there in a plan
-abbrev pub ArePlaced : Plan → List Entry → Type 0
-ArePlaced plan entries = AreWithin (sizes_of plan) entries
-
--- each of these entries that tells where a frame left tells of one of 512 circuits
-abbrev pub AreAtPorts : List Entry → Type 0
-AreAtPorts [] = Unit {0}
-AreAtPorts (e ∷ es) = IsAtPort e × AreAtPorts es
-
--- these are the entries of one event, its own first; or they stand before the first event
-abbrev pub AreOfOne : List Entry → List Entry → Type 0
-AreOfOne before [] = before ≡ []
-AreOfOne before (Did event ∷ es) = HasNoEvent es
-AreOfOne before (e ∷ es) = (before ≡ []) × HasNoEvent es
+-- a frame that the event put at a circuit entered first so
+abbrev pub IsFirstOf : Event → List Entry → Option (ℕ × ℕ) → Type 0
+IsFirstOf event rest first = (circuit : CircuitId) (octets : List ℕ) → event ≡ Frame circuit octets → IsFirst circuit rest first
 
 -- the window of a frame that entered by an event
 pub record OpensOf (plan : Plan) (before : List Entry) (circuit : CircuitId) (octets : List ℕ) (during : List Entry) (window : Window) : Type 0 where

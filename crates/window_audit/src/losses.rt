@@ -18,6 +18,7 @@ pub(crate) fn happen(
     requires { IsEventWithin state.old.sight.sizes event.now }
     ensures sizes { state.new.sight.sizes ≡ state.old.sight.sizes }
     ensures comings { state.new.copies.comings ≡ state.old.copies.comings }
+    ensures few { OnOk result (length losses.new.items ≤ length losses.old.items + 1) }
     ensures follows { OnOk result ((seen : Seen) → Knows state.old seen → Follows seen (happened_or idle event.now seen) state.new losses.old.items losses.new.items) }
 {
     if idle {
@@ -39,6 +40,7 @@ pub(crate) fn tell(
     requires few { state.old.copies.comings + length entries.now < 2 ^ 63 }
     ensures sizes { state.new.sight.sizes ≡ state.old.sight.sizes }
     ensures comings { OnOk result (state.new.copies.comings ≤ state.old.copies.comings + length entries.now) }
+    ensures few { OnOk result (length losses.new.items ≤ length losses.old.items + length entries.now) }
     ensures follows { OnOk result ((seen : Seen) → Knows state.old seen → Follows seen (seen_from seen entries.now) state.new losses.old.items losses.new.items) }
 {
     for entry in entries {
@@ -53,6 +55,7 @@ fn tell_one(state: &mut SeenState, entry: &Entry, losses: &mut Vec<u64>) -> Resu
     requires few { state.old.copies.comings < 2 ^ 63 }
     ensures sizes { state.new.sight.sizes ≡ state.old.sight.sizes }
     ensures comings { OnOk result (state.new.copies.comings ≤ state.old.copies.comings + 1) }
+    ensures few { OnOk result (length losses.new.items ≤ length losses.old.items + 1) }
     ensures follows { OnOk result ((seen : Seen) → Knows state.old seen → Follows seen (told_by_itself entry.now seen) state.new losses.old.items losses.new.items) }
 {
     let going = going_by_entry(&state.copies, entry);
@@ -104,6 +107,7 @@ fn going_by_entry(copies: &Copies, entry: &Entry) -> Option<u64>
 
 /// Adds a frame, where one is told.
 pub(crate) fn note(losses: &mut Vec<u64>, going: Option<u64>) -> Result<(), NoMemory>
+    ensures few { OnOk result (length losses.new.items ≤ length losses.old.items + 1) }
     ensures kept { OnOk result ((origin : ℕ) → is_one_of losses.old.items origin ≡ true → is_one_of losses.new.items origin ≡ true) }
     ensures noted { OnOk result ((origin : ℕ) → going ≡ Some origin → is_one_of losses.new.items origin ≡ true) }
 {

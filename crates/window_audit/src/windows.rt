@@ -1,23 +1,31 @@
 //! The windows that a report shows.
-ghost use Rattle.std.specs.Prelude.{◌≡◌, ◌<◌, ◌+◌, ◌++◌, ◌∷◌, ◌^◌, [], List, IfOk, OnOk};
-ghost use Rattle.net_base.specs.{declared.trace.entry.Entry.{Entry as Told}, plan.Accepted.{IsChecked, IsWithinLimits}};
-ghost use Rattle.seen_state.specs.Placed.{IsPlaced};
+ghost use Rattle.std.specs.Prelude.{◌≡◌, ◌<◌, ◌+◌, ◌++◌, ◌∷◌, ◌^◌, [], List, IfOk, OnOk, false};
+ghost use Rattle.net_base.specs.declared.trace.entry.Entry.{Entry as Told, TheVariants.{Did}};
+ghost use Rattle.net_base.specs.plan.Accepted.{IsChecked, IsWithinLimits};
 ghost use Rattle.seen_network.specs.Verdict.{OnceAnswers};
-ghost use Rattle.window_audit.specs.{Past.{HasSeen, IsPastOf}, Windows.{AreOf, AreReadyFor, CanHear, HasHeard, tells_event, told_count}};
+ghost use Rattle.seen_state.specs.{Placed.{IsEventWithin, IsPlaced}, Sight.{sizes_of}};
+ghost use Rattle.window_audit.specs.{During.{tells_event}, Past.{IsPastOf}, Windows.{AreOf, HasHeard, HasPassed, told_count}};
 
+use crate::during::During;
+use crate::exits::Exits;
 use crate::past::Past;
-use net_base::{Entry, NoMemory, Plan};
+use crate::sources::Sources;
+use net_base::{Entry, Event, NoMemory, Plan};
 use std::alloc::Global;
 
-/// What is known of a report, entry by entry: what is known behind the events that are over, and the entries of the last one.
+/// What is known of a report, entry by entry: what is known behind the events that are over, what is kept of the last one, and where
+/// frames came from and left.
 #[derive(Drop)]
 pub struct Windows {
     past: Past,
-    entries: Vec<Entry>,
+    during: During,
+    sources: Sources,
+    exits: Exits,
 }
 
 impl Windows {
     /// Nothing was told.
+    #[tactic(auto, using(crate::proofs::WindowLemmas::begun, crate::proofs::WindowLemmas::begun_of))]
     pub fn new(alloc: Global, plan: &Plan) -> Result<Windows, NoMemory>
         requires { IsChecked plan.now }
         ensures ready { IfOk result (AreOf plan.now) }
@@ -27,7 +35,9 @@ impl Windows {
         match Past::new(alloc, plan) {
             Ok(past) => Ok(Windows {
                 past,
-                entries: Vec::new(alloc),
+                during: During::new(alloc),
+                sources: Sources::new(alloc),
+                exits: Exits::new(alloc),
             }),
             Err(NoMemory) => Err(NoMemory),
         }
@@ -43,26 +53,41 @@ impl Windows {
         ensures count { OnOk result (told_count self.new ≡ told_count self.old + 1) }
         ensures heard { OnOk result ((trace : List Told) → HasHeard plan.now trace self.old → HasHeard plan.now (trace ++ entry ∷ []) self.new) }
     {
-        self.turn(plan, &entry)?;
-        match self.entries.push(entry) {
-            Ok(()) => Ok(()),
-            Err(_) => Err(NoMemory),
+        match entry {
+            Entry::Did { event } => self.begin(plan, event),
+            other => self.add(plan, other),
         }
     }
 
-    // The last event is over where the entry tells of one.
-    fn turn(&mut self, plan: &Plan, entry: &Entry) -> Result<(), NoMemory>
+    // An event is told: the last one is over.
+    fn begin(&mut self, plan: &Plan, event: Event) -> Result<(), NoMemory>
         requires limits { IsWithinLimits plan.now }
+        requires placed { IsEventWithin (sizes_of plan.now) event }
         requires ready { AreOf plan.now self.old }
-        ensures ready { OnOk result (AreReadyFor plan.now entry.now self.new) }
-        ensures count { OnOk result (told_count self.new ≡ told_count self.old) }
-        ensures heard { OnOk result ((trace : List Told) → HasHeard plan.now trace self.old → CanHear plan.now trace entry.now self.new) }
+        requires few { told_count self.old + 1 < 2 ^ 63 }
+        ensures ready { OnOk result (AreOf plan.now self.new) }
+        ensures count { OnOk result (told_count self.new ≡ told_count self.old + 1) }
+        ensures heard { OnOk result ((trace : List Told) → HasHeard plan.now trace self.old → HasHeard plan.now (trace ++ Did event ∷ []) self.new) }
     {
-        if tells_event(entry) {
-            self.pass(plan)
-        } else {
-            Ok(())
-        }
+        self.pass(plan)?;
+        self.during.begin(event);
+        Ok(())
+    }
+
+    // An entry is told that tells of no event.
+    fn add(&mut self, plan: &Plan, entry: Entry) -> Result<(), NoMemory>
+        requires limits { IsWithinLimits plan.now }
+        requires bare { tells_event entry ≡ false }
+        requires placed { IsPlaced plan.now entry }
+        requires ready { AreOf plan.now self.old }
+        requires few { told_count self.old + 1 < 2 ^ 63 }
+        ensures ready { OnOk result (AreOf plan.now self.new) }
+        ensures count { OnOk result (told_count self.new ≡ told_count self.old + 1) }
+        ensures heard { OnOk result ((trace : List Told) → HasHeard plan.now trace self.old → HasHeard plan.now (trace ++ entry ∷ []) self.new) }
+    {
+        self.sources.tell(plan, &entry)?;
+        self.exits.tell(&entry)?;
+        self.during.tell(entry)
     }
 
     // The last event is over.
@@ -71,12 +96,9 @@ impl Windows {
         requires ready { AreOf plan.now self.old }
         ensures of { OnOk result (IsPastOf plan.now self.new.past) }
         ensures place { OnOk result (self.new.past.place ≡ told_count self.old) }
-        ensures none { OnOk result (self.new.entries.items ≡ []) }
-        ensures seen { OnOk result ((trace : List Told) → HasHeard plan.now trace self.old → HasSeen plan.now trace self.new.past) }
+        ensures passed { OnOk result ((trace : List Told) → HasHeard plan.now trace self.old → HasPassed plan.now trace self.new) }
     {
-        self.past.pass(plan, self.entries.as_slice())?;
-        self.entries.clear();
-        Ok(())
+        self.past.pass(plan, &self.sources, &self.during)
     }
 
     /// The place in the trace, counted from 0, of the first `in` entry of a frame that was to be seen exactly once and was not; `None`
@@ -88,13 +110,6 @@ impl Windows {
     {
         let mut windows = self;
         windows.pass(plan)?;
-        Ok(windows.past.verdict(plan))
+        Ok(windows.past.verdict(plan, &windows.exits))
     }
-}
-
-// Whether an entry tells of an event.
-fn tells_event(entry: &Entry) -> bool
-    ensures { result ≡ tells_event entry.now }
-{
-    matches!(*entry, Entry::Did { .. })
 }

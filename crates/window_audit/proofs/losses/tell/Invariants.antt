@@ -1,4 +1,4 @@
-use Rattle.std.proofs.Common.{◌≡◌, ◌≤◌, ◌+◌, drop}
+use Rattle.std.proofs.Common.{◌≡◌, ◌≤◌, ◌+◌, drop, length}
 use Rattle.seen_network.specs.Seen.{Seen}
 use Rattle.seen_state.specs.SeenState.{Knows}
 use Rattle.seen_network.specs.EventEntries.{HasNoEvent}
@@ -12,5 +12,6 @@ invariant-loop-entry l = record {
   within : AreWithin l.fn.state.sight.sizes (drop l.entry-index l.entries);
   sizes : l.state.sight.sizes ≡ l.fn.state.sight.sizes;
   comings : l.state.copies.comings ≤ l.fn.state.copies.comings + l.entry-index;
+  few : length l.losses.items ≤ length l.fn.losses.items + l.entry-index;
   told : (seen : Seen) → Knows l.fn.state seen → IsToldSoFar seen l.entries (drop l.entry-index l.entries) l.state l.fn.losses.items l.losses.items;
 }

@@ -7,46 +7,46 @@ use Rattle.window_audit.proofs.OpenedLemmas.{frame_opens, none_opens}
 use Rattle.window_audit.proofs.opened.opened.Goals as goal
 
 pub returns-in-Frame-clause-opens : goal.returns-in-Frame-clause-opens
-returns-in-Frame-clause-opens c = λ before at knows known.
-    subst (λ (e : Event). IsOpened c.args.plan.now before e c.args.rest.now c.frame_opened.result) (sym c.in-Frame.is)
-    (frame_opens c.args.plan.now before c.in-Frame.circuit c.in-Frame.bytes c.args.rest.now c.frame_opened.result
-    (subst (λ (o : List ℕ). FrameOpens c.args.plan.now before c.in-Frame.circuit o c.args.rest.now c.frame_opened.result) c.as_slice.ensures (c.frame_opened.ensures.opens before at knows known)))
+returns-in-Frame-clause-opens c = λ before rest first at knows known.
+    subst (λ (e : Event). IsOpened c.args.plan.now before e rest c.frame_opened.result) (sym c.in-Frame.is)
+    (frame_opens c.args.plan.now before c.in-Frame.circuit c.in-Frame.bytes rest c.frame_opened.result
+    (subst (λ (o : List ℕ). FrameOpens c.args.plan.now before c.in-Frame.circuit o rest c.frame_opened.result) c.as_slice.ensures (c.frame_opened.ensures.opens before rest (first c.in-Frame.circuit c.in-Frame.bytes c.in-Frame.is) at knows known)))
 
 pub returns-in-Connect-clause-opens : goal.returns-in-Connect-clause-opens
-returns-in-Connect-clause-opens c = λ before at knows known. none_opens c.args.plan.now before c.args.event.now c.args.rest.now (λ circuit octets is. cc (sym c.in-Connect.is ∙ is))
+returns-in-Connect-clause-opens c = λ before rest first at knows known. none_opens c.args.plan.now before c.args.event.now rest (λ circuit octets is. cc (sym c.in-Connect.is ∙ is))
 
 pub returns-in-Deliver-clause-opens : goal.returns-in-Deliver-clause-opens
-returns-in-Deliver-clause-opens c = λ before at knows known. none_opens c.args.plan.now before c.args.event.now c.args.rest.now (λ circuit octets is. cc (sym c.in-Deliver.is ∙ is))
+returns-in-Deliver-clause-opens c = λ before rest first at knows known. none_opens c.args.plan.now before c.args.event.now rest (λ circuit octets is. cc (sym c.in-Deliver.is ∙ is))
 
 pub returns-in-Lose-clause-opens : goal.returns-in-Lose-clause-opens
-returns-in-Lose-clause-opens c = λ before at knows known. none_opens c.args.plan.now before c.args.event.now c.args.rest.now (λ circuit octets is. cc (sym c.in-Lose.is ∙ is))
+returns-in-Lose-clause-opens c = λ before rest first at knows known. none_opens c.args.plan.now before c.args.event.now rest (λ circuit octets is. cc (sym c.in-Lose.is ∙ is))
 
 pub returns-in-Restart-clause-opens : goal.returns-in-Restart-clause-opens
-returns-in-Restart-clause-opens c = λ before at knows known. none_opens c.args.plan.now before c.args.event.now c.args.rest.now (λ circuit octets is. cc (sym c.in-Restart.is ∙ is))
+returns-in-Restart-clause-opens c = λ before rest first at knows known. none_opens c.args.plan.now before c.args.event.now rest (λ circuit octets is. cc (sym c.in-Restart.is ∙ is))
 
 pub returns-in-Circuit-clause-opens : goal.returns-in-Circuit-clause-opens
-returns-in-Circuit-clause-opens c = λ before at knows known. none_opens c.args.plan.now before c.args.event.now c.args.rest.now (λ circuit octets is. cc (sym c.in-Circuit.is ∙ is))
+returns-in-Circuit-clause-opens c = λ before rest first at knows known. none_opens c.args.plan.now before c.args.event.now rest (λ circuit octets is. cc (sym c.in-Circuit.is ∙ is))
 
 pub returns-in-Tick-clause-opens : goal.returns-in-Tick-clause-opens
-returns-in-Tick-clause-opens c = λ before at knows known. none_opens c.args.plan.now before c.args.event.now c.args.rest.now (λ circuit octets is. cc (sym c.in-Tick.is ∙ is))
+returns-in-Tick-clause-opens c = λ before rest first at knows known. none_opens c.args.plan.now before c.args.event.now rest (λ circuit octets is. cc (sym c.in-Tick.is ∙ is))
 
 pub returns-in-Arrive-clause-opens : goal.returns-in-Arrive-clause-opens
-returns-in-Arrive-clause-opens c = λ before at knows known. none_opens c.args.plan.now before c.args.event.now c.args.rest.now (λ circuit octets is. cc (sym c.in-Arrive.is ∙ is))
+returns-in-Arrive-clause-opens c = λ before rest first at knows known. none_opens c.args.plan.now before c.args.event.now rest (λ circuit octets is. cc (sym c.in-Arrive.is ∙ is))
 
 pub returns-in-Discard-clause-opens : goal.returns-in-Discard-clause-opens
-returns-in-Discard-clause-opens c = λ before at knows known. none_opens c.args.plan.now before c.args.event.now c.args.rest.now (λ circuit octets is. cc (sym c.in-Discard.is ∙ is))
+returns-in-Discard-clause-opens c = λ before rest first at knows known. none_opens c.args.plan.now before c.args.event.now rest (λ circuit octets is. cc (sym c.in-Discard.is ∙ is))
 
 pub returns-in-Again-clause-opens : goal.returns-in-Again-clause-opens
-returns-in-Again-clause-opens c = λ before at knows known. none_opens c.args.plan.now before c.args.event.now c.args.rest.now (λ circuit octets is. cc (sym c.in-Again.is ∙ is))
+returns-in-Again-clause-opens c = λ before rest first at knows known. none_opens c.args.plan.now before c.args.event.now rest (λ circuit octets is. cc (sym c.in-Again.is ∙ is))
 
 pub returns-in-Wire-clause-opens : goal.returns-in-Wire-clause-opens
-returns-in-Wire-clause-opens c = λ before at knows known. none_opens c.args.plan.now before c.args.event.now c.args.rest.now (λ circuit octets is. cc (sym c.in-Wire.is ∙ is))
+returns-in-Wire-clause-opens c = λ before rest first at knows known. none_opens c.args.plan.now before c.args.event.now rest (λ circuit octets is. cc (sym c.in-Wire.is ∙ is))
 
 pub returns-in-Status-clause-opens : goal.returns-in-Status-clause-opens
-returns-in-Status-clause-opens c = λ before at knows known. none_opens c.args.plan.now before c.args.event.now c.args.rest.now (λ circuit octets is. cc (sym c.in-Status.is ∙ is))
+returns-in-Status-clause-opens c = λ before rest first at knows known. none_opens c.args.plan.now before c.args.event.now rest (λ circuit octets is. cc (sym c.in-Status.is ∙ is))
 
 pub returns-in-Priority-clause-opens : goal.returns-in-Priority-clause-opens
-returns-in-Priority-clause-opens c = λ before at knows known. none_opens c.args.plan.now before c.args.event.now c.args.rest.now (λ circuit octets is. cc (sym c.in-Priority.is ∙ is))
+returns-in-Priority-clause-opens c = λ before rest first at knows known. none_opens c.args.plan.now before c.args.event.now rest (λ circuit octets is. cc (sym c.in-Priority.is ∙ is))
 
 pub returns-in-Ping-clause-opens : goal.returns-in-Ping-clause-opens
-returns-in-Ping-clause-opens c = λ before at knows known. none_opens c.args.plan.now before c.args.event.now c.args.rest.now (λ circuit octets is. cc (sym c.in-Ping.is ∙ is))
+returns-in-Ping-clause-opens c = λ before rest first at knows known. none_opens c.args.plan.now before c.args.event.now rest (λ circuit octets is. cc (sym c.in-Ping.is ∙ is))

@@ -1,28 +1,23 @@
--- The entries are at ports. What was seen is that of the longer trace, where an event leads them and where they stand before the first one.
-use Rattle.std.proofs.Common.{arith, drop, sym}
+-- What is known is that of the longer trace, where an event leads the entries and where they stand before the first one.
+use Rattle.std.proofs.Common.{List, subst}
 use Rattle.std.proofs.lemmas.Result.{on_ok_weaker}
-use Rattle.net_values.proofs.RowLemmas.{drop_next}
-use Rattle.window_audit.proofs.PastLemmas.{at_ports, seen_event, seen_first, split_first}
+use Rattle.net_base.specs.declared.trace.entry.Entry.{Entry}
+use Rattle.seen_network.specs.Seen.{Seen, seen_from}
+use Rattle.seen_state.specs.SeenState.{Knows}
+use Rattle.window_audit.specs.CalmMemory.{Remembers}
+use Rattle.window_audit.proofs.PastLemmas.{passed_event, passed_first}
 use Rattle.window_audit.proofs.past.Past.pass.Goals as goal
 
-pub tell_exits-requires : goal.tell_exits-requires
-tell_exits-requires c = at_ports c.args.plan.now c.args.entries.now c.requires.limits c.requires.placed
-
-pub returns-in-Some-clause-seen : goal.returns-in-Some-clause-seen
-returns-in-Some-clause-seen c = on_ok_weaker c.pass_event.result
-    (λ windows. λ trace seen one.
-    let split = split_first c.args.entries.now c.first-item.result c.in-len1-up.len_at_least c.first-item.is in
-    seen_event c.args.plan.now trace c.args.entries.now c.first-item.result _ c.in-Some.event.now c.args.self.now c.pass_event.new.self c.tell_sources.new.sources c.tell_exits.new.exits split
-    (sym c.in-Some.ensures) seen c.pass_event.ensures.place
-    c.pass_event.ensures.sources c.in_ok-tell_sources.ensures c.pass_event.ensures.exits c.in_ok-tell_exits.ensures
-    (λ sources. windows trace seen.place (record { state = seen.state; calm = seen.calm; lasting = seen.lasting; owed = seen.owed }) sources))
+pub returns-in-Some-clause-windows : goal.returns-in-Some-clause-windows
+returns-in-Some-clause-windows c = on_ok_weaker c.pass_event.result
+    (λ windows. λ done rest told first at has sources. passed_event c.args.plan.now done rest c.in-Some.event c.pass_event.new.self c.args.sources.now c.args.during.now c.in-Some.is
+    (windows done rest told at (record { state = has.state; calm = has.calm; lasting = has.lasting; owed = has.owed })) sources)
     c.pass_event.ensures.windows
 
-pub returns-in-None-clause-seen : goal.returns-in-None-clause-seen
-returns-in-None-clause-seen c = on_ok_weaker c.pass_first.result
-    (λ knows. λ trace seen one.
-    seen_first c.args.plan.now trace c.args.entries.now c.first-item.result (drop 1 c.args.entries.now) c.args.self.now c.pass_first.new.self c.tell_sources.new.sources c.tell_exits.new.exits
-    (drop_next c.args.entries.now 0 c.first-item.result (omega (arith, c.in-len1-up.len_at_least)) c.first-item.is) (sym c.in-None.ensures) c.requires.one one seen c.pass_first.ensures.place knows
-    (c.pass_first.ensures.calm c.args.plan.now)
-    c.pass_first.ensures.sources c.in_ok-tell_sources.ensures c.pass_first.ensures.exits c.in_ok-tell_exits.ensures c.pass_first.ensures.lasting c.pass_first.ensures.owed)
+pub returns-in-None-clause-windows : goal.returns-in-None-clause-windows
+returns-in-None-clause-windows c = on_ok_weaker c.pass_first.result
+    (λ knows. λ done rest told first at has sources. passed_first c.args.plan.now done rest c.args.self.now c.pass_first.new.self c.args.during.now c.in-None.is told first
+    (subst (λ (es : List Entry). (seen : Seen) → Knows c.args.self.now.state seen → Knows c.pass_first.new.self.state (seen_from seen es)) c.as_slice.ensures.value knows)
+    (subst (λ (es : List Entry). (seen : Seen) → Remembers c.args.plan.now seen c.args.self.now.calm → Remembers c.args.plan.now (seen_from seen es) c.pass_first.new.self.calm) c.as_slice.ensures.value
+    (c.pass_first.ensures.calm c.args.plan.now)) c.pass_first.ensures.lasting c.pass_first.ensures.owed has)
     c.pass_first.ensures.state

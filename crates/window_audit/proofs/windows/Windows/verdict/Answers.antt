@@ -1,4 +1,6 @@
 use Rattle.window_audit.proofs.windows.Windows.verdict.Goals as goal
 
 pub returns : goal.returns
-returns c = λ trace heard. c.verdict.ensures trace (c.in_ok-pass.ensures.seen trace heard)
+returns c = λ trace heard.
+    let passed = c.in_ok-pass.ensures.passed trace heard in
+    c.verdict.ensures trace passed.past.owed passed.exits
