@@ -13,10 +13,8 @@ use Rattle.seen_network.specs.Once.{SeenWithin, times_seen}
 use Rattle.seen_network.specs.Verdict.{IsFirstOwed, IsServed}
 use Rattle.seen_network.specs.Windows.{AmongWindows}
 use Rattle.seen_network.specs.declared.window.Window.{Window}
-use Rattle.seen_state.specs.Numbered.{Values}
-use Rattle.window_audit.specs.Exits.{HasExits, LeftTwice, has_left, is_again, is_far, leavings_of, left_far}
+use Rattle.window_audit.specs.Exits.{ExitLists, HasExits, LeftTwice, has_left, is_again, is_far, leavings_of, left_far}
 use Rattle.window_audit.specs.Verdict.{AgreeOrDiffer, DifferAtSites, Judges, earlier, is_owed_at}
-use Rattle.window_audit.specs.declared.leavings.Leavings.{Leavings}
 
 -- ---- segments
 
@@ -88,14 +86,14 @@ owed_one : (b : Bool) → nat_lt 0 (cond b 1 0) ≡ b
 owed_one true = grind (arith, nat_tests)
 owed_one false = grind (arith, nat_tests)
 
-pub differ_not : (plan : Plan) (trace : List Entry) (window : Window) (exits : Values Leavings) (at : List ℕ) → HasExits exits trace
+pub differ_not : (plan : Plan) (trace : List Entry) (window : Window) (exits : ExitLists) (at : List ℕ) → HasExits exits trace
     → ((c : ℕ) → holds_port at c ≡ has_left (leavings_of exits window.origin) c)
     → DifferAtSites plan window.sites at → IsServed plan trace window → ⊥
 differ_not plan trace window exits at known at_is differ served = differ.differ
     (at_is differ.circuit ∙ (known.at window.origin (record { 0 = differ.circuit })
     ∙ (ap (nat_lt 0) (served.once (record { 0 = differ.circuit })) ∙ owed_one (is_owed_at plan window.sites differ.circuit))))
 
-pub served : (plan : Plan) (trace : List Entry) (window : Window) (exits : Values Leavings) (at : List ℕ) → IsWithinLimits plan → HasExits exits trace
+pub served : (plan : Plan) (trace : List Entry) (window : Window) (exits : ExitLists) (at : List ℕ) → IsWithinLimits plan → HasExits exits trace
     → is_again (leavings_of exits window.origin) ≡ false → is_far (leavings_of exits window.origin) ≡ false
     → ((c : ℕ) → holds_port at c ≡ has_left (leavings_of exits window.origin) c) → ((c : ℕ) → c < 512 → holds_port at c ≡ is_owed_at plan window.sites c) → IsServed plan trace window
 served plan trace window exits at limits known once near at_is agree = record {
@@ -108,17 +106,17 @@ served plan trace window exits at limits known once near at_is agree = record {
   by circuit false h = known.beyond window.origin circuit (let q : 512 ≤ circuit.0 = grind (arith, nat_tests, h) in q)
       ∙ sym (ap (λ b. cond (b && holds_port window.sites circuit.0) 1 0) (let q : nat_lt circuit.0 (length plan.circuits) ≡ false = grind (arith, nat_tests, h, limits.circuits) in q))
 
-pub judged : (plan : Plan) (trace : List Entry) (window : Window) (exits : Values Leavings) (at : List ℕ) (answer : Bool) → IsWithinLimits plan → HasExits exits trace
+pub judged : (plan : Plan) (trace : List Entry) (window : Window) (exits : ExitLists) (at : List ℕ) (answer : Bool) → IsWithinLimits plan → HasExits exits trace
     → is_again (leavings_of exits window.origin) ≡ false → is_far (leavings_of exits window.origin) ≡ false
     → ((c : ℕ) → holds_port at c ≡ has_left (leavings_of exits window.origin) c) → AgreeOrDiffer plan window.sites at answer → Judges plan trace window answer
 judged plan trace window exits at true limits known once near at_is agree = served plan trace window exits at limits known once near at_is agree
 judged plan trace window exits at false limits known once near at_is differ = differ_not plan trace window exits at known at_is differ
 
-pub refused_again : (plan : Plan) (trace : List Entry) (window : Window) (exits : Values Leavings) → HasExits exits trace
+pub refused_again : (plan : Plan) (trace : List Entry) (window : Window) (exits : ExitLists) → HasExits exits trace
     → is_again (leavings_of exits window.origin) ≡ true → Judges plan trace window false
 refused_again plan trace window exits known again = twice_not plan trace window (known.again window.origin again)
 
-pub refused_far : (plan : Plan) (trace : List Entry) (window : Window) (exits : Values Leavings) → HasExits exits trace
+pub refused_far : (plan : Plan) (trace : List Entry) (window : Window) (exits : ExitLists) → HasExits exits trace
     → is_far (leavings_of exits window.origin) ≡ true → Judges plan trace window false
 refused_far plan trace window exits known far = far_not plan trace window (sym (known.far window.origin) ∙ far)
 

@@ -5,17 +5,15 @@ use Rattle.net_base.specs.declared.plan.Plan.{Plan}
 use Rattle.net_base.specs.declared.trace.entry.Entry.{Entry}
 use Rattle.net_base.specs.declared.trace.entry.Entry.TheVariants as entry
 use Rattle.net_base.specs.declared.trace.event.Event.{Event}
-use Rattle.seen_state.specs.Numbered.{Values}
 use Rattle.seen_network.specs.Windows.{AreOwed}
 use Rattle.seen_network.specs.Verdict.{IsFirstOwed, OnceAnswers}
 use Rattle.seen_network.proofs.VerdictLemmas.{answered}
 use Rattle.window_audit.specs.During.{AreKept, AreTold, with_event}
-use Rattle.window_audit.specs.Exits.{HasExits}
+use Rattle.window_audit.specs.Exits.{ExitLists, HasExits}
 use Rattle.window_audit.specs.Past.{HasWindows, IsPastOf}
 use Rattle.window_audit.specs.Sources.{HasSources}
 use Rattle.window_audit.specs.Windows.{AreOf, HasHeard, HasPassed, told_count}
 use Rattle.window_audit.specs.declared.during.During.{During}
-use Rattle.window_audit.specs.declared.leavings.Leavings.{Leavings}
 use Rattle.window_audit.specs.declared.past.Past.{Past}
 use Rattle.window_audit.specs.declared.source.Source.{Source}
 use Rattle.window_audit.specs.declared.windows.Windows.{Windows}
@@ -23,7 +21,7 @@ use Rattle.window_audit.proofs.ExitLemmas.{told_other as same_exits}
 use Rattle.window_audit.proofs.SourceLemmas.{told_other as same_sources}
 
 -- the first place of those that are owed is the answer
-pub told : (plan : Plan) (past : Past) (exits : Values Leavings) (answer : Option ℕ) → ((trace : List Entry) → HasExits exits trace → IsFirstOwed plan trace past.owed.items answer)
+pub told : (plan : Plan) (past : Past) (exits : ExitLists) (answer : Option ℕ) → ((trace : List Entry) → HasExits exits trace → IsFirstOwed plan trace past.owed.items answer)
     → (trace : List Entry) → AreOwed plan trace past.owed.items → HasExits exits trace → OnceAnswers plan trace answer
 told plan past exits answer first trace owed left = answered plan trace past.owed.items answer owed (first trace left)
 
@@ -85,7 +83,7 @@ behind : (done rest : List Entry) (event : Option Event) (e : Entry) → (done +
 behind done rest None e = append_assoc done rest (e ∷ [])
 behind done rest (Some event) e = append_assoc done (entry.Did event ∷ rest) (e ∷ [])
 
-pub entry_heard : (plan : Plan) (trace : List Entry) (e : Entry) (old : Windows) (during : During) (sources : List Source) (exits : Values Leavings) → during.event ≡ old.during.event
+pub entry_heard : (plan : Plan) (trace : List Entry) (e : Entry) (old : Windows) (during : During) (sources : List Source) (exits : ExitLists) → during.event ≡ old.during.event
     → ((rest : List Entry) → AreTold rest old.during → AreTold (rest ++ e ∷ []) during)
     → ((before : List Entry) → HasSources plan old.sources before → HasSources plan sources (before ++ e ∷ []))
     → ((before : List Entry) → HasExits old.exits before → HasExits exits (before ++ e ∷ []))
@@ -103,6 +101,6 @@ entry_heard plan trace e old during sources exits same told comes leaves heard =
   exits = leaves trace heard.exits;
 }
 
-pub entry_of : (plan : Plan) (old : Windows) (during : During) (sources : List Source) (exits : Values Leavings) → during.count ≡ old.during.count + 1 → AreKept plan during → AreOf plan old
+pub entry_of : (plan : Plan) (old : Windows) (during : During) (sources : List Source) (exits : ExitLists) → during.count ≡ old.during.count + 1 → AreKept plan during → AreOf plan old
     → told_count old + 1 < 2 ^ 63 → AreOf plan (record { past = old.past; during = during; sources = sources; exits = exits })
 entry_of plan old during sources exits count kept of few = record { past = of.past; kept = kept; few = omega (arith, count, few) }
