@@ -20,7 +20,7 @@ UNSEEN = {
     ("vplsnet", "FileShelf", "alloc"): "an allocator has no value",
     ("vplsnet", "FileShelf", "files"): "the system's files, of which nothing is promised",
     ("vplsnet", "FileShelf", "opened"): "those of them that are open: one for each file that was read",
-    ("window_audit", "Lasting", "alloc"): "an allocator has no value",
+    ("window_audit", "OpenWindows", "alloc"): "an allocator has no value",
 }
 # A source, and the fields of its struct that no contract sees.
 MODEL = "impl Model for Shop {{\n    ghost Value = {{ ℕ }};\n\n    ghost view = {{ λ s. {} }};\n\n    ghost invariant = {{ λ s. {} }};\n}}\n"

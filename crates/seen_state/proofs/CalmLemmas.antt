@@ -11,7 +11,7 @@ use Rattle.net_base.specs.plan.Paths.{first_edge, last_edge}
 use Rattle.net_base.specs.plan.Roles.{all_below, any_wire, count_wires}
 use Rattle.seen_network.specs.Calm.{first_up, is_seen_calm, last_up}
 use Rattle.seen_network.specs.Seen.{Seen}
-use Rattle.seen_state.specs.Sight.{ShowsSight, SightLists, shown_with, up_at}
+use Rattle.seen_state.specs.SeenEdges.{ShowsEdges, SeenEdgeLists, shown_with, up_at}
 
 -- ---- edges
 
@@ -68,8 +68,8 @@ last_is seen wire (e ∷ f ∷ es) = last_is seen wire (f ∷ es)
 pub ruleset up_steps = (first_is, last_is)
 
 -- whatever is under way
-pub shown_calm : (plan : Plan) (sight : SightLists) (seen : Seen) (service : ServiceId) → ShowsSight sight seen → is_seen_calm plan (shown_with sight []) service ≡ is_seen_calm plan seen service
+pub shown_calm : (plan : Plan) (seen_edges : SeenEdgeLists) (seen : Seen) (service : ServiceId) → ShowsEdges seen_edges seen → is_seen_calm plan (shown_with seen_edges []) service ≡ is_seen_calm plan seen service
 unfolding shown_with
-shown_calm plan sight seen service shows = alone ∙ ap (λ (x : Seen). is_seen_calm plan x service) shows where
-  alone : is_seen_calm plan (shown_with sight []) service ≡ is_seen_calm plan (shown_with sight seen.under_way) service
+shown_calm plan seen_edges seen service shows = alone ∙ ap (λ (x : Seen). is_seen_calm plan x service) shows where
+  alone : is_seen_calm plan (shown_with seen_edges []) service ≡ is_seen_calm plan (shown_with seen_edges seen.under_way) service
   alone = refl

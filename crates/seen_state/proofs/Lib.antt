@@ -6,4 +6,4 @@ pub mod PairLemmas
 pub mod PeerEndLemmas
 pub mod PlaceLemmas
 pub mod RowLemmas
-pub mod SightLemmas
+pub mod SeenEdgesLemmas

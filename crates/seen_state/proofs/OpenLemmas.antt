@@ -4,7 +4,7 @@ use Rattle.net_values.proofs.RowLemmas.{replicate_length, replicate_default}
 use Rattle.seen_network.specs.Seen.{nothing_seen}
 use Rattle.seen_state.specs.declared.sizes.Sizes.{Sizes}
 use Rattle.seen_state.specs.PeerEnd.{no_end}
-use Rattle.seen_state.specs.Sight.{EdgeSeen, IsWhole, ShowsSight, unseen_edge, shown_with}
+use Rattle.seen_state.specs.SeenEdges.{EdgeSeen, IsWhole, ShowsEdges, unseen_edge, shown_with}
 
 ends_none : (n m w : ℕ) (i j : ℕ) → slice_index_or (slice_index_or (replicate n (record { ends = replicate m no_end; up = replicate w false })) i unseen_edge).ends j no_end ≡ no_end
 ends_none zero m w i j = refl
@@ -31,7 +31,7 @@ opened_whole sizes = record {
 }
 
 pub opened_shows : (sizes : Sizes)
-    → ShowsSight (record {
+    → ShowsEdges (record {
       sizes = sizes;
       edges = replicate sizes.edges (record { ends = replicate sizes.edges no_end; up = replicate sizes.wires false });
       on = replicate sizes.circuits true;

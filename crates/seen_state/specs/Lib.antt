@@ -5,4 +5,4 @@ pub mod Numbered
 pub mod PeerEnd
 pub mod Placed
 pub mod SeenState
-pub mod Sight
+pub mod SeenEdges

@@ -6,7 +6,7 @@ use Rattle.net_base.specs.declared.trace.entry.Entry.TheVariants as entry
 use Rattle.net_base.specs.declared.trace.event.Event.{Event}
 use Rattle.net_base.specs.declared.trace.event.Event.TheVariants as event
 use Rattle.seen_state.specs.declared.sizes.Sizes.{Sizes}
-use Rattle.seen_state.specs.Sight.{sizes_of}
+use Rattle.seen_state.specs.SeenEdges.{sizes_of}
 
 -- the edges whose ends an event changes, and the circuit that it puts on or off, are there
 abbrev pub IsEventWithin : Sizes → Event → Type 0

@@ -4,23 +4,23 @@ ghost use Rattle.net_base.specs.plan.{Accepted.{IsWithinLimits}, Paths.{is_first
 ghost use Rattle.net_base.specs.plan.Roles.{all_below, any_wire, count_wires, is_mesh_of};
 ghost use Rattle.seen_network.specs.Calm.{has_seen_spokes, is_seen_calm, is_seen_drained, is_seen_full, is_seen_mesh, is_seen_quiet, is_seen_spoke, is_seen_up};
 ghost use Rattle.seen_network.specs.Seen.{Seen};
-ghost use Rattle.seen_state.specs.{Calm.{has_one_spoke, is_seen_full_between, is_seen_quiet_between}, Sight.{ShowsSight, shown_with}};
+ghost use Rattle.seen_state.specs.{Calm.{has_one_spoke, is_seen_full_between, is_seen_quiet_between}, SeenEdges.{ShowsEdges, shown_with}};
 ghost use Rattle.seen_state.specs.EdgePairs.{AreEdgesOf, AreJoined, AreMeshed, has_pair};
 
 use crate::edge_pairs::EdgePairs;
+use crate::seen_edges::SeenEdges;
 use crate::service_edges::{ServiceEdges, joined};
-use crate::sight::Sight;
 use hvpls_spokes::starts_spoke;
 use net_base::{Class, EdgeId, Plan, ServiceId, WirePlan, first_of, last_of};
 
-impl Sight {
+impl SeenEdges {
     /// Whether a service is seen calm: each two edges that it joins have both ends of their connection or neither and nothing between
     /// them, each two core edges have a mesh wire that is up at both terminal edges, and each spoke edge has exactly one such spoke
     /// (RFC 4762 sections 4.4 and 10.2). It takes no memory.
     #[tactic(auto, using(crate::proofs::CalmLemmas::shown_calm))]
     pub fn is_calm(&self, plan: &Plan, service: ServiceId) -> bool
         requires { IsWithinLimits plan.now }
-        ensures { (seen : Seen) → ShowsSight self.now seen → result ≡ is_seen_calm plan.now seen service }
+        ensures { (seen : Seen) → ShowsEdges self.now seen → result ≡ is_seen_calm plan.now seen service }
     {
         self.is_calm_alone(plan, service)
     }
@@ -72,7 +72,7 @@ impl Sight {
 
     // Nothing is seen between the two edges, where the service joins them: neither end of their connection stands, or both stand and
     // nothing is on its way or held.
-    #[tactic(auto, unfolding(crate::specs::Sight::shown_with))]
+    #[tactic(auto, unfolding(crate::specs::SeenEdges::shown_with))]
     fn is_quiet_between(
         &self,
         plan: &Plan,
@@ -94,7 +94,7 @@ impl Sight {
     }
 
     // An edge's end of its connection with a peer stands.
-    #[tactic(auto, unfolding(crate::specs::Sight::shown_with))]
+    #[tactic(auto, unfolding(crate::specs::SeenEdges::shown_with))]
     fn stands(&self, edge: EdgeId, peer: EdgeId) -> bool
         ensures { result ≡ (shown_with self.now []).stands edge.0 peer.0 }
     {
@@ -105,7 +105,7 @@ impl Sight {
     }
 
     // Nothing is on its way from an edge to another one, and the other one holds no rest.
-    #[tactic(auto, unfolding(crate::specs::Sight::shown_with))]
+    #[tactic(auto, unfolding(crate::specs::SeenEdges::shown_with))]
     fn is_drained(&self, from: EdgeId, to: EdgeId) -> bool
         ensures { result ≡ is_seen_drained (shown_with self.now []) from.0 to.0 }
     {
@@ -274,7 +274,7 @@ impl Sight {
     }
 
     // A wire is up at both terminal edges.
-    #[tactic(auto, using(crate::proofs::CalmLemmas::up_steps), unfolding(crate::specs::Sight::shown_with))]
+    #[tactic(auto, using(crate::proofs::CalmLemmas::up_steps), unfolding(crate::specs::SeenEdges::shown_with))]
     fn is_up(&self, wire: usize, row: &WirePlan) -> bool
         ensures { result ≡ is_seen_up (shown_with self.now []) wire row.now }
     {

@@ -11,14 +11,14 @@ mod numbered;
 mod peer_end;
 mod row;
 mod seen_edge;
+mod seen_edges;
 mod seen_state;
 mod service_edges;
-mod sight;
 mod sizes;
 mod whole_pdu;
 
 pub use copies::Copies;
 pub use numbered::Numbered;
+pub use seen_edges::SeenEdges;
 pub use seen_state::SeenState;
-pub use sight::Sight;
 pub use sizes::Sizes;

@@ -15,7 +15,7 @@ pub struct SeenEdge {
 }
 
 impl Model for SeenEdge {
-    ghost use Rattle.seen_state.specs.Sight.{EdgeSeen};
+    ghost use Rattle.seen_state.specs.SeenEdges.{EdgeSeen};
 
     ghost Value = { EdgeSeen };
 

@@ -22,14 +22,14 @@ record StrayBehind (plan : Plan) (earlier es : List Entry) (line : ℕ) : Type 0
   strays : IsolatedEntry plan (earlier ++ before) entry → ⊥
   line_is : line ≡ (length earlier + length before) + 2
 
-stray_behind : (plan : Plan) (earlier es : List Entry) (judge : Judged) (line : ℕ) → Knows plan earlier judge → judge.stray ≡ None → judge.line ≡ length earlier + 1
-    → (judges_all plan judge es).stray ≡ Some line → StrayBehind plan earlier es line
+stray_behind : (plan : Plan) (earlier es : List Entry) (path_audit : Judged) (line : ℕ) → Knows plan earlier path_audit → path_audit.stray ≡ None → path_audit.line ≡ length earlier + 1
+    → (judges_all plan path_audit es).stray ≡ Some line → StrayBehind plan earlier es line
 unfolding judges
-stray_behind plan earlier [] judge line knows none at last = none_some line (sym none ∙ last)
-stray_behind plan earlier (e ∷ es) judge line knows none at last = by (is_stray plan judge.came e) refl (λ next. stray_behind plan (earlier ++ e ∷ []) es (judges plan e judge) line (knows_more plan earlier judge e knows) next (omega (arith, at, length-append earlier (e ∷ []))) last) where
-  by : (b : Bool) → is_stray plan judge.came e ≡ b → ((judges plan e judge).stray ≡ None → StrayBehind plan (earlier ++ e ∷ []) es line) → StrayBehind plan earlier (e ∷ es) line
+stray_behind plan earlier [] path_audit line knows none at last = none_some line (sym none ∙ last)
+stray_behind plan earlier (e ∷ es) path_audit line knows none at last = by (is_stray plan path_audit.came e) refl (λ next. stray_behind plan (earlier ++ e ∷ []) es (judges plan e path_audit) line (knows_more plan earlier path_audit e knows) next (omega (arith, at, length-append earlier (e ∷ []))) last) where
+  by : (b : Bool) → is_stray plan path_audit.came e ≡ b → ((judges plan e path_audit).stray ≡ None → StrayBehind plan (earlier ++ e ∷ []) es line) → StrayBehind plan earlier (e ∷ es) line
   by true strays rest =
-      let here : Some (judge.line + 1) ≡ Some line = sym (stray_stays plan es (judges plan e judge) (judge.line + 1) (rw (none, strays) refl)) ∙ last in
+      let here : Some (path_audit.line + 1) ≡ Some line = sym (stray_stays plan es (judges plan e path_audit) (path_audit.line + 1) (rw (none, strays) refl)) ∙ last in
       record {
         before = [];
         entry = e;
@@ -37,7 +37,7 @@ stray_behind plan earlier (e ∷ es) judge line knows none at last = by (is_stra
         is = refl;
         isolated = tt;
         strays = λ isolated. clash (sym (isolated_entry plan earlier e (subst (λ (l : List Entry). IsolatedEntry plan l e) (append-nil earlier) isolated))
-            ∙ (sym (stray_same plan earlier judge e knows) ∙ strays));
+            ∙ (sym (stray_same plan earlier path_audit e knows) ∙ strays));
         line_is = omega (arith, at, some_same here);
       }
   by false stays rest =
@@ -47,7 +47,7 @@ stray_behind plan earlier (e ∷ es) judge line knows none at last = by (is_stra
         entry = found.entry;
         after = found.after;
         is = ap (λ (l : List Entry). e ∷ l) found.is;
-        isolated = (entry_isolated plan earlier e (sym (stray_same plan earlier judge e knows) ∙ stays), found.isolated);
+        isolated = (entry_isolated plan earlier e (sym (stray_same plan earlier path_audit e knows) ∙ stays), found.isolated);
         strays = λ isolated. found.strays (subst (λ (l : List Entry). IsolatedEntry plan l found.entry) (sym (append_assoc earlier (e ∷ []) found.before)) isolated);
         line_is = omega (arith, found.line_is, length-append earlier (e ∷ []));
       }
@@ -67,14 +67,14 @@ record CrossingBehind (plan : Plan) (earlier : ℕ) (es : List Entry) (line : �
   crosses : SplitEntry plan entry → ⊥
   line_is : line ≡ (earlier + length before) + 2
 
-crossing_behind : (plan : Plan) (earlier : ℕ) (es : List Entry) (judge : Judged) (line : ℕ) → judge.crossed ≡ None → judge.line ≡ earlier + 1 → (judges_all plan judge es).crossed
+crossing_behind : (plan : Plan) (earlier : ℕ) (es : List Entry) (path_audit : Judged) (line : ℕ) → path_audit.crossed ≡ None → path_audit.line ≡ earlier + 1 → (judges_all plan path_audit es).crossed
     ≡ Some line → CrossingBehind plan earlier es line
 unfolding judges
-crossing_behind plan earlier [] judge line none at last = none_some line (sym none ∙ last)
-crossing_behind plan earlier (e ∷ es) judge line none at last = by (is_crossing plan e) refl (λ next. crossing_behind plan (earlier + 1) es (judges plan e judge) line next (omega (arith, at)) last) where
-  by : (b : Bool) → is_crossing plan e ≡ b → ((judges plan e judge).crossed ≡ None → CrossingBehind plan (earlier + 1) es line) → CrossingBehind plan earlier (e ∷ es) line
+crossing_behind plan earlier [] path_audit line none at last = none_some line (sym none ∙ last)
+crossing_behind plan earlier (e ∷ es) path_audit line none at last = by (is_crossing plan e) refl (λ next. crossing_behind plan (earlier + 1) es (judges plan e path_audit) line next (omega (arith, at)) last) where
+  by : (b : Bool) → is_crossing plan e ≡ b → ((judges plan e path_audit).crossed ≡ None → CrossingBehind plan (earlier + 1) es line) → CrossingBehind plan earlier (e ∷ es) line
   by true crosses rest =
-      let here : Some (judge.line + 1) ≡ Some line = sym (crossed_stays plan es (judges plan e judge) (judge.line + 1) (rw (none, crosses) refl)) ∙ last in
+      let here : Some (path_audit.line + 1) ≡ Some line = sym (crossed_stays plan es (judges plan e path_audit) (path_audit.line + 1) (rw (none, crosses) refl)) ∙ last in
       record { before = []; entry = e; after = es; is = refl; split = tt; crosses = λ split. clash (sym (split_entry plan e split) ∙ crosses); line_is = omega (arith, at, some_same here) }
   by false stays rest =
       let found = rest (rw (none, stays) refl) in

@@ -1,5 +1,5 @@
 pub mod ArrivalLemmas
-pub mod EarLemmas
+pub mod RuleAuditLemmas
 pub mod FirstLemmas
 pub mod HeardLemmas
 pub mod JudgeLemmas

@@ -212,14 +212,14 @@ isolated_entry plan earlier (entry.Pong edge wire sequence) is = refl
 -- ---- all entries
 
 -- what was known of the entries before is of them
-pub record Knows (plan : Plan) (earlier : List Entry) (judge : Judged) : Type 0 where
-  pub came : (one : Entered) → has_come judge.came one ≡ has_come (came_list plan earlier) one
+pub record Knows (plan : Plan) (earlier : List Entry) (path_audit : Judged) : Type 0 where
+  pub came : (one : Entered) → has_come path_audit.came one ≡ has_come (came_list plan earlier) one
 
-pub knows_more : (plan : Plan) (earlier : List Entry) (judge : Judged) (e : Entry) → Knows plan earlier judge → Knows plan (earlier ++ e ∷ []) (judges plan e judge)
+pub knows_more : (plan : Plan) (earlier : List Entry) (path_audit : Judged) (e : Entry) → Knows plan earlier path_audit → Knows plan (earlier ++ e ∷ []) (judges plan e path_audit)
 unfolding judges
-knows_more plan earlier judge e knows = record {
+knows_more plan earlier path_audit e knows = record {
   came = λ one.
-      after_found plan e judge.came one
+      after_found plan e path_audit.came one
       ∙ (ap (λ (b : Bool). b || has_come (entry_came plan e) one) (knows.came one)
       ∙ (sym (any-append (is_entered one) (came_list plan earlier) (entry_came plan e)) ∙ ap (λ (l : List Entered). has_come l one) (sym (list-append plan earlier e))));
 }
@@ -229,49 +229,49 @@ one_same a b None same = refl
 one_same a b (Some one) same = same one
 
 -- so the same entries are strays
-pub stray_same : (plan : Plan) (earlier : List Entry) (judge : Judged) (e : Entry) → Knows plan earlier judge → is_stray plan judge.came e ≡ is_stray plan (came_list plan earlier) e
-stray_same plan earlier judge (entry.Left circuit origin hops octets) knows = ap not (one_same judge.came (came_list plan earlier) (entered_at plan circuit origin octets) knows.came)
-stray_same plan earlier judge (entry.Did event) knows = refl
-stray_same plan earlier judge entry.Idle knows = refl
-stray_same plan earlier judge (entry.Said from to octets) knows = refl
-stray_same plan earlier judge (entry.In circuit number octets) knows = refl
-stray_same plan earlier judge (entry.Sent from to wire came packet origin hops octets) knows = refl
-stray_same plan earlier judge (entry.Copied packet of) knows = refl
-stray_same plan earlier judge (entry.Aged packet) knows = refl
-stray_same plan earlier judge (entry.Dropped edge origin cause) knows = refl
-stray_same plan earlier judge (entry.Session edge peer name) knows = refl
-stray_same plan earlier judge (entry.Wire edge wire down) knows = refl
-stray_same plan earlier judge (entry.Pong edge wire sequence) knows = refl
+pub stray_same : (plan : Plan) (earlier : List Entry) (path_audit : Judged) (e : Entry) → Knows plan earlier path_audit → is_stray plan path_audit.came e ≡ is_stray plan (came_list plan earlier) e
+stray_same plan earlier path_audit (entry.Left circuit origin hops octets) knows = ap not (one_same path_audit.came (came_list plan earlier) (entered_at plan circuit origin octets) knows.came)
+stray_same plan earlier path_audit (entry.Did event) knows = refl
+stray_same plan earlier path_audit entry.Idle knows = refl
+stray_same plan earlier path_audit (entry.Said from to octets) knows = refl
+stray_same plan earlier path_audit (entry.In circuit number octets) knows = refl
+stray_same plan earlier path_audit (entry.Sent from to wire came packet origin hops octets) knows = refl
+stray_same plan earlier path_audit (entry.Copied packet of) knows = refl
+stray_same plan earlier path_audit (entry.Aged packet) knows = refl
+stray_same plan earlier path_audit (entry.Dropped edge origin cause) knows = refl
+stray_same plan earlier path_audit (entry.Session edge peer name) knows = refl
+stray_same plan earlier path_audit (entry.Wire edge wire down) knows = refl
+stray_same plan earlier path_audit (entry.Pong edge wire sequence) knows = refl
 
 -- a first line stays the first one
-pub stray_stays : (plan : Plan) (es : List Entry) (judge : Judged) (line : ℕ) → judge.stray ≡ Some line → (judges_all plan judge es).stray ≡ Some line
+pub stray_stays : (plan : Plan) (es : List Entry) (path_audit : Judged) (line : ℕ) → path_audit.stray ≡ Some line → (judges_all plan path_audit es).stray ≡ Some line
 unfolding judges
-stray_stays plan [] judge line is = is
-stray_stays plan (e ∷ es) judge line is = stray_stays plan es (judges plan e judge) line (ap (λ (o : Option ℕ). first_line o (is_stray plan judge.came e) (judge.line + 1)) is)
+stray_stays plan [] path_audit line is = is
+stray_stays plan (e ∷ es) path_audit line is = stray_stays plan es (judges plan e path_audit) line (ap (λ (o : Option ℕ). first_line o (is_stray plan path_audit.came e) (path_audit.line + 1)) is)
 
-pub crossed_stays : (plan : Plan) (es : List Entry) (judge : Judged) (line : ℕ) → judge.crossed ≡ Some line → (judges_all plan judge es).crossed ≡ Some line
+pub crossed_stays : (plan : Plan) (es : List Entry) (path_audit : Judged) (line : ℕ) → path_audit.crossed ≡ Some line → (judges_all plan path_audit es).crossed ≡ Some line
 unfolding judges
-crossed_stays plan [] judge line is = is
-crossed_stays plan (e ∷ es) judge line is = crossed_stays plan es (judges plan e judge) line (ap (λ (o : Option ℕ). first_line o (is_crossing plan e) (judge.line + 1)) is)
+crossed_stays plan [] path_audit line is = is
+crossed_stays plan (e ∷ es) path_audit line is = crossed_stays plan es (judges plan e path_audit) line (ap (λ (o : Option ℕ). first_line o (is_crossing plan e) (path_audit.line + 1)) is)
 
 pub none_some : {P : Type 0} (line : ℕ) → None ≡ Some line → P
 none_some line e = absurd (cc e)
 
-pub isolated_by : (plan : Plan) (earlier es : List Entry) (judge : Judged) → Knows plan earlier judge → judge.stray ≡ None → (judges_all plan judge es).stray ≡ None → IsolatedAfter plan earlier es
+pub isolated_by : (plan : Plan) (earlier es : List Entry) (path_audit : Judged) → Knows plan earlier path_audit → path_audit.stray ≡ None → (judges_all plan path_audit es).stray ≡ None → IsolatedAfter plan earlier es
 unfolding judges
-isolated_by plan earlier [] judge knows none last = tt
-isolated_by plan earlier (e ∷ es) judge knows none last = by (is_stray plan judge.came e) refl (λ next. isolated_by plan (earlier ++ e ∷ []) es (judges plan e judge) (knows_more plan earlier judge e knows) next last) where
-  by : (b : Bool) → is_stray plan judge.came e ≡ b → ((judges plan e judge).stray ≡ None → IsolatedAfter plan (earlier ++ e ∷ []) es) → IsolatedEntry plan earlier e
+isolated_by plan earlier [] path_audit knows none last = tt
+isolated_by plan earlier (e ∷ es) path_audit knows none last = by (is_stray plan path_audit.came e) refl (λ next. isolated_by plan (earlier ++ e ∷ []) es (judges plan e path_audit) (knows_more plan earlier path_audit e knows) next last) where
+  by : (b : Bool) → is_stray plan path_audit.came e ≡ b → ((judges plan e path_audit).stray ≡ None → IsolatedAfter plan (earlier ++ e ∷ []) es) → IsolatedEntry plan earlier e
       × IsolatedAfter plan (earlier ++ e ∷ []) es
-  by true strays rest = none_some (judge.line + 1) (sym last ∙ stray_stays plan es (judges plan e judge) (judge.line + 1) (rw (none, strays) refl))
-  by false stays rest = (entry_isolated plan earlier e (sym (stray_same plan earlier judge e knows) ∙ stays), rest (rw (none, stays) refl))
+  by true strays rest = none_some (path_audit.line + 1) (sym last ∙ stray_stays plan es (judges plan e path_audit) (path_audit.line + 1) (rw (none, strays) refl))
+  by false stays rest = (entry_isolated plan earlier e (sym (stray_same plan earlier path_audit e knows) ∙ stays), rest (rw (none, stays) refl))
 
-pub by_isolated : (plan : Plan) (earlier es : List Entry) (judge : Judged) → Knows plan earlier judge → judge.stray ≡ None → IsolatedAfter plan earlier es → (judges_all plan judge es).stray ≡ None
+pub by_isolated : (plan : Plan) (earlier es : List Entry) (path_audit : Judged) → Knows plan earlier path_audit → path_audit.stray ≡ None → IsolatedAfter plan earlier es → (judges_all plan path_audit es).stray ≡ None
 unfolding judges
-by_isolated plan earlier [] judge knows none is = none
-by_isolated plan earlier (e ∷ es) judge knows none is = by_isolated plan (earlier ++ e ∷ []) es (judges plan e judge) (knows_more plan earlier judge e knows) (rw (none, stays) refl) is.1 where
-  stays : is_stray plan judge.came e ≡ false
-  stays = stray_same plan earlier judge e knows ∙ isolated_entry plan earlier e is.0
+by_isolated plan earlier [] path_audit knows none is = none
+by_isolated plan earlier (e ∷ es) path_audit knows none is = by_isolated plan (earlier ++ e ∷ []) es (judges plan e path_audit) (knows_more plan earlier path_audit e knows) (rw (none, stays) refl) is.1 where
+  stays : is_stray plan path_audit.came e ≡ false
+  stays = stray_same plan earlier path_audit e knows ∙ isolated_entry plan earlier e is.0
 
 -- ---- split horizon
 
@@ -325,18 +325,18 @@ split_entry plan (entry.Session edge peer name) is = refl
 split_entry plan (entry.Wire edge wire down) is = refl
 split_entry plan (entry.Pong edge wire sequence) is = refl
 
-pub split_by : (plan : Plan) (es : List Entry) (judge : Judged) → judge.crossed ≡ None → (judges_all plan judge es).crossed ≡ None → Split plan es
+pub split_by : (plan : Plan) (es : List Entry) (path_audit : Judged) → path_audit.crossed ≡ None → (judges_all plan path_audit es).crossed ≡ None → Split plan es
 unfolding judges
-split_by plan [] judge none last = tt
-split_by plan (e ∷ es) judge none last = by (is_crossing plan e) refl (λ next. split_by plan es (judges plan e judge) next last) where
-  by : (b : Bool) → is_crossing plan e ≡ b → ((judges plan e judge).crossed ≡ None → Split plan es) → SplitEntry plan e × Split plan es
-  by true crosses rest = none_some (judge.line + 1) (sym last ∙ crossed_stays plan es (judges plan e judge) (judge.line + 1) (rw (none, crosses) refl))
+split_by plan [] path_audit none last = tt
+split_by plan (e ∷ es) path_audit none last = by (is_crossing plan e) refl (λ next. split_by plan es (judges plan e path_audit) next last) where
+  by : (b : Bool) → is_crossing plan e ≡ b → ((judges plan e path_audit).crossed ≡ None → Split plan es) → SplitEntry plan e × Split plan es
+  by true crosses rest = none_some (path_audit.line + 1) (sym last ∙ crossed_stays plan es (judges plan e path_audit) (path_audit.line + 1) (rw (none, crosses) refl))
   by false stays rest = (entry_split plan e stays, rest (rw (none, stays) refl))
 
-pub by_split : (plan : Plan) (es : List Entry) (judge : Judged) → judge.crossed ≡ None → Split plan es → (judges_all plan judge es).crossed ≡ None
+pub by_split : (plan : Plan) (es : List Entry) (path_audit : Judged) → path_audit.crossed ≡ None → Split plan es → (judges_all plan path_audit es).crossed ≡ None
 unfolding judges
-by_split plan [] judge none is = none
-by_split plan (e ∷ es) judge none is = by_split plan es (judges plan e judge) (rw (none, split_entry plan e is.0) refl) is.1
+by_split plan [] path_audit none is = none
+by_split plan (e ∷ es) path_audit none is = by_split plan es (judges plan e path_audit) (rw (none, split_entry plan e is.0) refl) is.1
 
 -- ---- the whole trace
 

@@ -6,7 +6,7 @@ use Rattle.net_base.specs.declared.trace.event.Event.{Event}
 use Rattle.net_base.specs.declared.trace.event.Event.TheVariants as event
 use Rattle.report_text.specs.Named.{IsEntryNamed, IsNamedEvent}
 use Rattle.seen_state.specs.Placed.{IsEventWithin, IsPlaced}
-use Rattle.seen_state.specs.Sight.{sizes_of}
+use Rattle.seen_state.specs.SeenEdges.{sizes_of}
 
 event_placed : (plan : Plan) (x : Event) → IsNamedEvent plan x → IsEventWithin (sizes_of plan) x
 event_placed plan (event.Connect from to) is = is

@@ -3,7 +3,7 @@ use Rattle.std.specs.Prelude.{◌≡◌, ◌<◌, ◌==◌, ◌&&◌, ◌||◌, 
 use Rattle.std.specs.List.{list_any}
 use Rattle.std.specs.Str.{bytes_eq}
 use Rattle.seen_state.specs.Numbered.{Values, value_at}
-use Rattle.trace_audit.specs.declared.came.Came.{Came}
+use Rattle.trace_audit.specs.declared.entered_frame.EnteredFrame.{EnteredFrame}
 
 -- a frame without the tag of its circuit, with its number and its service
 pub record Entered : Type 0 where
@@ -12,7 +12,7 @@ pub record Entered : Type 0 where
   pub frame : List ℕ
 
 -- a frame as it is known in its service
-abbrev pub entered_of : Came → Entered
+abbrev pub entered_of : EnteredFrame → Entered
 entered_of came = record { number = came.number; service = came.service; frame = came.frame.items }
 
 -- both are one frame in one service under one number
@@ -30,29 +30,29 @@ with_came came one = if has_come came one then came else came ++ one ∷ []
 -- the frames that entered: the first ones of their numbers, by the places that their numbers tell, and the others
 pub record ArrivalLists : Type 0 where
   pub places : Values ℕ
-  pub firsts : List Came
-  pub others : List Came
+  pub firsts : List EnteredFrame
+  pub others : List EnteredFrame
 
 -- each place is one of so many
 abbrev pub ArePlaced : Values ℕ → ℕ → Type 0
 ArePlaced places count = (number place : ℕ) → value_at places number ≡ Some place → place < count
 
 -- the frame at a place, where one is told
-abbrev pub came_at : List Came → Option ℕ → Option Came
+abbrev pub came_at : List EnteredFrame → Option ℕ → Option EnteredFrame
 came_at firsts None = None
 came_at firsts (Some place) = slice_get firsts place
 
 -- the first frame that entered under the number
-abbrev pub first_under : ArrivalLists → ℕ → Option Came
+abbrev pub first_under : ArrivalLists → ℕ → Option EnteredFrame
 first_under arrivals number = came_at arrivals.firsts (value_at arrivals.places number)
 
 -- the frame is that one
-abbrev pub is_first : Entered → Option Came → Bool
+abbrev pub is_first : Entered → Option EnteredFrame → Bool
 is_first one None = false
 is_first one (Some kept) = is_entered one (entered_of kept)
 
 -- the frame is one of those that entered under numbers that others had
-abbrev pub has_other : List Came → Entered → Bool
+abbrev pub has_other : List EnteredFrame → Entered → Bool
 has_other others one = list_any (λ kept. is_entered one (entered_of kept)) others
 
 -- the frame entered under its number, in its service

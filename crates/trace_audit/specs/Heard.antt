@@ -9,7 +9,7 @@ use Rattle.report_entries.specs.Report.{goes_on, told_of, ◌>>=◌}
 use Rattle.window_audit.specs.Windows.{AreOf, HasHeard, told_count}
 use Rattle.trace_audit.specs.declared.audit_stop.AuditStop.{AuditStop}
 use Rattle.trace_audit.specs.declared.audit_stop.AuditStop.TheVariants.{Form, Isolated, Split, Once, NoMemory}
-use Rattle.trace_audit.specs.declared.ears.Ears.{Ears}
+use Rattle.trace_audit.specs.declared.rule_audit.RuleAudit.{RuleAudit}
 use Rattle.trace_audit.specs.Audited.{FirstOfOnce, FirstOfSplit, FirstStray, IsGoodTrace}
 use Rattle.trace_audit.specs.Judged.{KnowsJudged, begun, judges_all}
 
@@ -23,45 +23,45 @@ abbrev pub with_front_entries : List Entry → Result (List Entry) ℕ → Resul
 with_front_entries front told = told >>= (λ entries. Ok (front ++ entries))
 
 -- they were begun for the plan, and the line that names the format and one for each entry were read
-pub record AreEarsOf (plan : Plan) (ears : Ears) : Type 0 where
-  pub windows : AreOf plan ears.windows
-  pub lines : ears.judge.line ≡ told_count ears.windows + 1
+pub record IsAuditOf (plan : Plan) (rule_audit : RuleAudit) : Type 0 where
+  pub windows : AreOf plan rule_audit.windows
+  pub lines : rule_audit.path_audit.line ≡ told_count rule_audit.windows + 1
 
 -- these entries were heard
-pub record HasHeardAll (plan : Plan) (trace : List Entry) (ears : Ears) : Type 0 where
-  pub judged : KnowsJudged ears.judge (judges_all plan begun trace)
-  pub windows : HasHeard plan trace ears.windows
+pub record HasHeardAll (plan : Plan) (trace : List Entry) (rule_audit : RuleAudit) : Type 0 where
+  pub judged : KnowsJudged rule_audit.path_audit (judges_all plan begun trace)
+  pub windows : HasHeard plan trace rule_audit.windows
 
 -- some entries were heard
-pub record WereHeard (plan : Plan) (ears : Ears) : Type 0 where
+pub record WereHeard (plan : Plan) (rule_audit : RuleAudit) : Type 0 where
   pub trace : List Entry
-  pub heard : HasHeardAll plan trace ears
+  pub heard : HasHeardAll plan trace rule_audit
 
 -- the entries of a front of the lines were heard, and the rest tells those behind it, by so many lines at most
-pub record IsBehind (plan : Plan) (text : List ℕ) (left : ℕ) (reader : ReadSoFar) (ears : Ears) : Type 0 where
+pub record IsBehind (plan : Plan) (text : List ℕ) (left : ℕ) (reader : ReadSoFar) (rule_audit : RuleAudit) : Type 0 where
   pub front : List Entry
   pub told : told_of plan text ≡ with_front_entries front (goes_on left plan reader.tally reader.rest)
-  pub heard : HasHeardAll plan front ears
+  pub heard : HasHeardAll plan front rule_audit
 
 -- the entries of all lines were heard
-pub record IsHeard (plan : Plan) (text : List ℕ) (ears : Ears) : Type 0 where
+pub record IsHeard (plan : Plan) (text : List ℕ) (rule_audit : RuleAudit) : Type 0 where
   pub trace : List Entry
   pub told : told_of plan text ≡ Ok trace
-  pub heard : HasHeardAll plan trace ears
+  pub heard : HasHeardAll plan trace rule_audit
 
 -- a line more: it tells an entry, it was the last one, or it breaks the form
-abbrev pub HearsLine : Plan → ReadSoFar → Ears → ReadSoFar → Ears → Result Bool AuditStop → Type 0
-HearsLine plan old ears new heard (Ok true) = (text : List ℕ) (left : ℕ) → IsBehind plan text (suc left) old ears → IsBehind plan text left new heard
-HearsLine plan old ears new heard (Ok false) = (text : List ℕ) (left : ℕ) → IsBehind plan text (suc left) old ears → IsHeard plan text heard
-HearsLine plan old ears new heard (Err (Form line)) = (text : List ℕ) (left : ℕ) → IsBehind plan text (suc left) old ears → told_of plan text ≡ Err line
-HearsLine plan old ears new heard (Err (Isolated line)) = ⊥
-HearsLine plan old ears new heard (Err (Split line)) = ⊥
-HearsLine plan old ears new heard (Err (Once line)) = ⊥
-HearsLine plan old ears new heard (Err NoMemory) = Unit {0}
+abbrev pub HearsLine : Plan → ReadSoFar → RuleAudit → ReadSoFar → RuleAudit → Result Bool AuditStop → Type 0
+HearsLine plan old rule_audit new heard (Ok true) = (text : List ℕ) (left : ℕ) → IsBehind plan text (suc left) old rule_audit → IsBehind plan text left new heard
+HearsLine plan old rule_audit new heard (Ok false) = (text : List ℕ) (left : ℕ) → IsBehind plan text (suc left) old rule_audit → IsHeard plan text heard
+HearsLine plan old rule_audit new heard (Err (Form line)) = (text : List ℕ) (left : ℕ) → IsBehind plan text (suc left) old rule_audit → told_of plan text ≡ Err line
+HearsLine plan old rule_audit new heard (Err (Isolated line)) = ⊥
+HearsLine plan old rule_audit new heard (Err (Split line)) = ⊥
+HearsLine plan old rule_audit new heard (Err (Once line)) = ⊥
+HearsLine plan old rule_audit new heard (Err NoMemory) = Unit {0}
 
 -- a whole report is heard
-abbrev pub HearsReport : Plan → List ℕ → Result Ears AuditStop → Type 0
-HearsReport plan text (Ok ears) = AreEarsOf plan ears × IsHeard plan text ears
+abbrev pub HearsReport : Plan → List ℕ → Result RuleAudit AuditStop → Type 0
+HearsReport plan text (Ok rule_audit) = IsAuditOf plan rule_audit × IsHeard plan text rule_audit
 HearsReport plan text (Err (Form line)) = told_of plan text ≡ Err line
 HearsReport plan text (Err (Isolated line)) = ⊥
 HearsReport plan text (Err (Split line)) = ⊥

@@ -12,7 +12,7 @@ use Rattle.net_base.specs.declared.trace.entry.Entry.TheVariants.{In, Left, Sent
 use Rattle.net_base.specs.plan.Places.{is_mesh_wire, service_of}
 use Rattle.net_base.specs.trace.Isolated.{inner_at}
 use Rattle.net_base.specs.trace.Split.{is_switching_point}
-use Rattle.trace_audit.specs.declared.judge.Judge.{Judge}
+use Rattle.trace_audit.specs.declared.path_audit.PathAudit.{PathAudit}
 use Rattle.trace_audit.specs.Arrivals.{Entered, TellsArrivals, has_come, with_came}
 
 -- what is known behind the lines that were read: how many, the frames that entered, and the first lines that break the two rules
@@ -22,12 +22,12 @@ pub record Judged : Type 0 where
   pub stray : Option ℕ
   pub crossed : Option ℕ
 
--- the judge knows it
-pub record KnowsJudged (judge : Judge) (judged : Judged) : Type 0 where
-  pub line : judge.line ≡ judged.line
-  pub came : TellsArrivals judge.came judged.came
-  pub stray : judge.stray ≡ judged.stray
-  pub crossed : judge.crossed ≡ judged.crossed
+-- the path_audit knows it
+pub record KnowsJudged (path_audit : PathAudit) (judged : Judged) : Type 0 where
+  pub line : path_audit.line ≡ judged.line
+  pub came : TellsArrivals path_audit.came judged.came
+  pub stray : path_audit.stray ≡ judged.stray
+  pub crossed : path_audit.crossed ≡ judged.crossed
 
 -- before the first entry, behind the line that names the format
 abbrev pub begun : Judged
@@ -96,14 +96,14 @@ first_line None holds here = if holds then Some here else None
 
 -- what an entry makes of what was judged so far
 unfoldable pub judges : Plan → Entry → Judged → Judged
-judges plan entry judge = record {
-  line = judge.line + 1;
-  came = came_after plan entry judge.came;
-  stray = first_line judge.stray (is_stray plan judge.came entry) (judge.line + 1);
-  crossed = first_line judge.crossed (is_crossing plan entry) (judge.line + 1);
+judges plan entry path_audit = record {
+  line = path_audit.line + 1;
+  came = came_after plan entry path_audit.came;
+  stray = first_line path_audit.stray (is_stray plan path_audit.came entry) (path_audit.line + 1);
+  crossed = first_line path_audit.crossed (is_crossing plan entry) (path_audit.line + 1);
 }
 
 -- what is known behind entries
 abbrev pub judges_all : Plan → Judged → List Entry → Judged
-judges_all plan judge [] = judge
-judges_all plan judge (e ∷ es) = judges_all plan (judges plan e judge) es
+judges_all plan path_audit [] = path_audit
+judges_all plan path_audit (e ∷ es) = judges_all plan (judges plan e path_audit) es

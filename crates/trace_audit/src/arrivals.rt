@@ -3,7 +3,7 @@ ghost use Rattle.std.specs.Prelude.{◌≡◌, ◌++◌, [], List, true, false, 
 ghost use Rattle.seen_state.specs.Numbered.{value_at};
 ghost use Rattle.trace_audit.specs.Arrivals.{Entered, TellsArrivals, entered_of, first_under, has_come, has_other, is_entered, is_first, with_came};
 
-use crate::came::Came;
+use crate::entered_frame::EnteredFrame;
 use net_base::NoMemory;
 use seen_state::Numbered;
 use std::alloc::Global;
@@ -16,8 +16,8 @@ use std::marker::Model;
 #[derive(Drop)]
 pub struct Arrivals {
     places: Numbered<u64>,
-    firsts: Vec<Came>,
-    others: BTreeSet<Came>,
+    firsts: Vec<EnteredFrame>,
+    others: BTreeSet<EnteredFrame>,
 }
 
 impl Model for Arrivals {
@@ -45,7 +45,7 @@ impl Arrivals {
     }
 
     // The first frame that entered under a number.
-    fn first(&self, number: u64) -> Option<&Came>
+    fn first(&self, number: u64) -> Option<&EnteredFrame>
         ensures { option_copied result ≡ first_under self.now number }
     {
         match self.places.get(number) {
@@ -55,14 +55,14 @@ impl Arrivals {
     }
 
     /// Whether this frame entered under its number, in its service.
-    pub fn has(&self, came: &Came) -> bool
+    pub fn has(&self, came: &EnteredFrame) -> bool
         ensures { (known : List Entered) → TellsArrivals self.now known → result ≡ has_come known (entered_of came.now) }
     {
         self.is_first(came) || self.is_other(came)
     }
 
     // Whether this frame is the first one that entered under its number.
-    fn is_first(&self, came: &Came) -> bool
+    fn is_first(&self, came: &EnteredFrame) -> bool
         ensures { result ≡ is_first (entered_of came.now) (first_under self.now came.now.number) }
     {
         match self.first(came.number) {
@@ -72,7 +72,7 @@ impl Arrivals {
     }
 
     // Whether it is one of the others.
-    fn is_other(&self, came: &Came) -> bool
+    fn is_other(&self, came: &EnteredFrame) -> bool
         ensures { result ≡ has_other self.now.others (entered_of came.now) }
     {
         self.others.contains(came)
@@ -91,7 +91,7 @@ impl Arrivals {
     }
 
     /// A frame entered.
-    pub fn add(&mut self, came: Came) -> Result<(), NoMemory>
+    pub fn add(&mut self, came: EnteredFrame) -> Result<(), NoMemory>
         ensures { OnOk result ((known : List Entered) → TellsArrivals self.old known → TellsArrivals self.new (with_came known (entered_of came))) }
     {
         if self.has_number(came.number) {
@@ -110,7 +110,7 @@ impl Arrivals {
 
     // A frame entered, the first one under its number.
     #[tactic(auto, using(crate::proofs::ArrivalLemmas::first_added, crate::proofs::ArrivalLemmas::first_placed))]
-    fn add_first(&mut self, came: Came) -> Result<(), NoMemory>
+    fn add_first(&mut self, came: EnteredFrame) -> Result<(), NoMemory>
         requires { is_some (value_at self.old.places came.number) ≡ false }
         ensures { OnOk result ((known : List Entered) → TellsArrivals self.old known → TellsArrivals self.new (with_came known (entered_of came))) }
     {
@@ -120,7 +120,7 @@ impl Arrivals {
     }
 
     // A frame entered under a number that another one has.
-    fn add_other(&mut self, came: Came) -> Result<(), NoMemory>
+    fn add_other(&mut self, came: EnteredFrame) -> Result<(), NoMemory>
         ensures { OnOk result ((known : List Entered) → TellsArrivals self.old known → TellsArrivals self.new (with_came known (entered_of came))) }
     {
         self.others.insert(came)?;
@@ -129,7 +129,7 @@ impl Arrivals {
 }
 
 // Whether both are one frame in one service under one number.
-fn is_same(came: &Came, kept: &Came) -> bool
+fn is_same(came: &EnteredFrame, kept: &EnteredFrame) -> bool
     ensures { result ≡ is_entered (entered_of came.now) (entered_of kept.now) }
 {
     came.number == kept.number
@@ -137,7 +137,7 @@ fn is_same(came: &Came, kept: &Came) -> bool
 }
 
 // Whether a frame that entered has this number, this service and these two parts.
-fn is_came(kept: &Came, number: u64, service: u16, front: &[u8], back: &[u8]) -> bool
+fn is_came(kept: &EnteredFrame, number: u64, service: u16, front: &[u8], back: &[u8]) -> bool
     ensures { result ≡ true → entered_of kept.now ≡ record { number = number; service = service; frame = front.now ++ back.now } }
 {
     kept.number == number

@@ -3,11 +3,11 @@
 
 mod arrivals;
 mod audit_stop;
-mod came;
-mod ears;
-mod judge;
+mod entered_frame;
 mod laws;
+mod path_audit;
 mod report_audit;
+mod rule_audit;
 
 pub use audit_stop::AuditStop;
 pub use laws::{crossings_are_told, good_reports_get_yes, strays_are_told};

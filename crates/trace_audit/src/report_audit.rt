@@ -3,10 +3,10 @@ ghost use Rattle.std.specs.Prelude.{◌≡◌, ◌<◌, ◌≤◌, ◌+◌, ◌^
 ghost use Rattle.net_base.specs.plan.Accepted.{IsChecked};
 ghost use Rattle.command_text.specs.Planned.{names_of};
 ghost use Rattle.report_entries.specs.Answers.{HasBegun};
-ghost use Rattle.trace_audit.specs.{Audited.{IsAudited}, Heard.{AreEarsOf, HearsReport, HearsLine}};
+ghost use Rattle.trace_audit.specs.{Audited.{IsAudited}, Heard.{IsAuditOf, HearsReport, HearsLine}};
 
 use crate::AuditStop;
-use crate::ears::Ears;
+use crate::rule_audit::RuleAudit;
 use command_text::{NameLists, PlanNames};
 use net_base::{NoMemory, Plan};
 use report_entries::ReportReader;
@@ -19,22 +19,22 @@ fn hear_next(
     plan: &Plan,
     names: &PlanNames<'_>,
     reader: &mut ReportReader<'_>,
-    ears: &mut Ears,
+    rule_audit: &mut RuleAudit,
 ) -> Result<bool, AuditStop>
     requires checked { IsChecked plan.now }
     requires names { names.now ≡ names_of plan.now }
     requires ready { reader.old.waits ≡ [] }
     requires few { reader.old.tally.lines < 2 ^ 63 }
-    requires begun { AreEarsOf plan.now ears.old }
-    requires short { ears.old.judge.line < 2 ^ 63 }
+    requires begun { IsAuditOf plan.now rule_audit.old }
+    requires short { rule_audit.old.path_audit.line < 2 ^ 63 }
     ensures ready { OnOk result (reader.new.waits ≡ []) }
-    ensures begun { OnOk result (AreEarsOf plan.now ears.new) }
+    ensures begun { OnOk result (IsAuditOf plan.now rule_audit.new) }
     ensures lines { OnOk result (reader.new.tally.lines ≤ reader.old.tally.lines + 1) }
-    ensures line { OnOk result (ears.new.judge.line ≤ ears.old.judge.line + 1) }
-    ensures hears { HearsLine plan.now reader.old ears.old reader.new ears.new result }
+    ensures line { OnOk result (rule_audit.new.path_audit.line ≤ rule_audit.old.path_audit.line + 1) }
+    ensures hears { HearsLine plan.now reader.old rule_audit.old reader.new rule_audit.new result }
 {
     match reader.next(alloc, plan, names) {
-        Ok(Some(entry)) => match ears.hear(alloc, plan, entry) {
+        Ok(Some(entry)) => match rule_audit.hear(alloc, plan, entry) {
             Ok(()) => Ok(true),
             Err(NoMemory) => Err(AuditStop::NoMemory),
         },
@@ -51,20 +51,20 @@ fn hear_lines(
     names: &PlanNames<'_>,
     text: &[u8],
     reader: ReportReader<'_>,
-) -> Result<Ears, AuditStop>
+) -> Result<RuleAudit, AuditStop>
     requires checked { IsChecked plan.now }
     requires names { names.now ≡ names_of plan.now }
     requires begun { HasBegun text.now reader }
     ensures { HearsReport plan.now text.now result }
 {
     let mut reader = reader;
-    let mut ears = Ears::new(alloc, plan)?;
+    let mut rule_audit = RuleAudit::new(alloc, plan)?;
     let mut left = reader.octets_left();
     'reading: while left > 0 {
         left -= 1;
-        match hear_next(alloc, plan, names, &mut reader, &mut ears) {
+        match hear_next(alloc, plan, names, &mut reader, &mut rule_audit) {
             Ok(true) => {}
-            Ok(false) => return Ok(ears),
+            Ok(false) => return Ok(rule_audit),
             Err(stop) => return Err(stop),
         }
     }
@@ -79,7 +79,7 @@ fn hear_report(
     plan: &Plan,
     names: &PlanNames<'_>,
     text: &[u8],
-) -> Result<Ears, AuditStop>
+) -> Result<RuleAudit, AuditStop>
     requires checked { IsChecked plan.now }
     requires names { names.now ≡ names_of plan.now }
     ensures { HearsReport plan.now text.now result }
@@ -98,7 +98,7 @@ fn audit_by(alloc: Global, plan: &Plan, names: &PlanNames<'_>, text: &[u8]) -> R
     ensures { IsAudited plan.now text.now result }
 {
     match hear_report(alloc, plan, names, text) {
-        Ok(ears) => ears.answer(plan),
+        Ok(rule_audit) => rule_audit.answer(plan),
         Err(stop) => Err(stop),
     }
 }

@@ -9,8 +9,8 @@ use Rattle.seen_network.specs.Once.{has_seen}
 use Rattle.seen_network.specs.Seen.{Seen}
 use Rattle.seen_network.specs.Windows.{AmongWindows}
 use Rattle.seen_network.specs.declared.window.Window.{Window}
-use Rattle.window_audit.specs.Lasting.{ClosesOne, HasClosed, is_one_of, are_copies_over}
-use Rattle.window_audit.proofs.LastingLemmas.{among_either, among_filter, among_left, among_right, from_filter}
+use Rattle.window_audit.specs.OpenWindows.{ClosesOne, HasClosed, is_one_of, are_copies_over}
+use Rattle.window_audit.proofs.OpenWindowsLemmas.{among_either, among_filter, among_left, among_right, from_filter}
 
 none_over : (gone : ℕ → Bool) (flooded : Window → Bool) (old new : ℕ → List Window) (owed : List Window) → ((q : ℕ) → gone q ≡ false) → ((q : ℕ) → new q ≡ old q)
     → HasClosed gone flooded old new owed owed
@@ -130,7 +130,7 @@ closed_more seen losses place flooded a b c o o1 o2 within first then =
 
 pub closed_whole : (seen : Seen) (losses : List ℕ) (place : ℕ) (flooded : Window → Bool) (a b : ℕ → List Window) (o o1 : List Window) → length losses ≤ place
     → HasClosed (are_copies_over seen (take place losses)) flooded a b o o1 → HasClosed (are_copies_over seen losses) flooded a b o o1
-closed_whole seen losses place flooded a b o o1 past h = subst (λ (xs : List ℕ). HasClosed (are_copies_over seen xs) flooded a b o o1) (take_all place losses past) h
+closed_whole seen losses place flooded a b o o1 known h = subst (λ (xs : List ℕ). HasClosed (are_copies_over seen xs) flooded a b o o1) (take_all place losses known) h
 
 -- ---- those that are owed, one by one
 

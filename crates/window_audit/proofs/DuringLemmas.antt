@@ -10,7 +10,7 @@ use Rattle.net_base.specs.declared.trace.event.Event.TheVariants as event
 use Rattle.seen_network.specs.Once.{entered_as}
 use Rattle.seen_network.specs.Seen.{Seen, seen_from, told_by_itself}
 use Rattle.seen_state.specs.Placed.{IsEventWithin, IsPlaced}
-use Rattle.seen_state.specs.Sight.{sizes_of}
+use Rattle.seen_state.specs.SeenEdges.{sizes_of}
 use Rattle.seen_network.specs.EventEntries.{HasNoEvent, entered_place, is_idle_entry}
 use Rattle.seen_network.proofs.EventLemmas.{seen_told, told_all}
 use Rattle.window_audit.specs.During.{AreKept, AreTold, IsEventOf, IsFirst, entered_by, first_or, moves, tells_event, with_event}

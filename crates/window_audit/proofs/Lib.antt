@@ -3,12 +3,12 @@ pub mod ClosingLemmas
 pub mod DueLemmas
 pub mod DuringLemmas
 pub mod ExitLemmas
-pub mod LastingLemmas
+pub mod OpenWindowsLemmas
 pub mod LossLemmas
 pub mod OpenLemmas
 pub mod OpenedLemmas
 pub mod OpeningLemmas
-pub mod PastLemmas
+pub mod WindowStateLemmas
 pub mod SourceLemmas
 pub mod SpareLemmas
 pub mod VerdictLemmas

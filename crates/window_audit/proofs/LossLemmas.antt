@@ -6,14 +6,13 @@ use Rattle.std.specs.List.{list_any}
 use Rattle.net_values.proofs.BoolLemmas.{second_fails, first_fails}
 use Rattle.net_base.specs.declared.trace.entry.Entry.{Entry}
 use Rattle.net_base.specs.declared.trace.entry.Entry.TheVariants as entry
-use Rattle.net_base.specs.declared.trace.state_name.StateName.TheVariants as state
 use Rattle.seen_network.specs.Once.{has_seen}
 use Rattle.seen_network.specs.Seen.{Seen, SeenCopy, copy_comes, copy_goes, delivers, end_goes, origin_among, repeats, seen_from, told_by_itself, with_copies, with_octets, with_on, with_rest, with_standing, with_up, without_copy, without_edge}
 use Rattle.seen_state.specs.Copies.{CopyMaps, TellsPackets, origin_under}
 use Rattle.seen_state.specs.SeenState.{Knows}
 use Rattle.seen_state.specs.declared.seen_state.SeenState.{SeenState}
 use Rattle.seen_network.specs.EventEntries.{HasNoEvent}
-use Rattle.window_audit.specs.Lasting.{is_one_of}
+use Rattle.window_audit.specs.OpenWindows.{is_one_of}
 use Rattle.window_audit.specs.Losses.{Follows, ListsLosses}
 
 pub on_ok_two : {T E A B P : Type 0} (r : Result T E) → (A → B → P) → OnOk r A → OnOk r B → OnOk r P
@@ -144,5 +143,5 @@ told_more seen entries rest e state state2 xs ys zs bare step sofar = record {
 
 pub told_whole : (seen : Seen) (entries : List Entry) (place : ℕ) (state : SeenState) (xs ys : List ℕ) → length entries ≤ place → IsToldSoFar seen entries (drop place entries) state xs ys
     → Follows seen (seen_from seen entries) state xs ys
-told_whole seen entries place state xs ys past sofar =
-    subst (λ (s : Seen). Follows seen s state xs ys) (sym (ap (seen_from sofar.mid) (drop_all place entries past)) ∙ sofar.on) sofar.follows
+told_whole seen entries place state xs ys known sofar =
+    subst (λ (s : Seen). Follows seen s state xs ys) (sym (ap (seen_from sofar.mid) (drop_all place entries known)) ∙ sofar.on) sofar.follows

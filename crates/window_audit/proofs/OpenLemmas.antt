@@ -4,7 +4,7 @@ use Rattle.std.proofs.lemmas.Bool.{eqb-true}
 use Rattle.std.specs.List.{filter}
 use Rattle.seen_state.specs.Numbered.{Values, value_at}
 use Rattle.seen_network.specs.declared.window.Window.{Window}
-use Rattle.window_audit.specs.Lasting.{OpenWindows, others_at, windows_at, with_first}
+use Rattle.window_audit.specs.OpenWindows.{WindowsByOrigin, others_at, windows_at, with_first}
 
 pub none_open : (firsts : Values Window) (others : List (ℕ × List Window)) (origin : ℕ) → value_at firsts origin ≡ None → others ≡ [] → windows_at (record { firsts = firsts; others = others }) origin ≡ []
 none_open firsts others origin none empty = ap₂ (λ f os. with_first f (others_at os origin)) none empty
@@ -29,7 +29,7 @@ behind : (f : Option Window) (os : List Window) (w : Window) → with_first f (o
 behind None os w = refl
 behind (Some f) os w = refl
 
-pub behind_put : (old mid new : OpenWindows) (window : Window) (windows more : List Window) → mid.firsts ≡ old.firsts → new.firsts ≡ mid.firsts → windows ≡ others_at old.others window.origin
+pub behind_put : (old mid new : WindowsByOrigin) (window : Window) (windows more : List Window) → mid.firsts ≡ old.firsts → new.firsts ≡ mid.firsts → windows ≡ others_at old.others window.origin
     → more ≡ windows ++ window ∷ [] → ((n : ℕ) → others_at mid.others n ≡ cond (n == window.origin) [] (others_at old.others n))
     → ((n : ℕ) → others_at new.others n ≡ cond (n == window.origin) more (others_at mid.others n))
     → (o : ℕ) → windows_at new o ≡ cond (o == window.origin) (windows_at old o ++ window ∷ []) (windows_at old o)
@@ -40,7 +40,7 @@ behind_put old mid new window windows more first next took grew left put o =
           ∙ behind (value_at old.firsts o) (others_at old.others o) window
       by false away = refl
 
-pub both_gone : (old new : OpenWindows) (mid : Values Window) (origin : ℕ) → ((n : ℕ) → value_at mid n ≡ cond (n == origin) None (value_at old.firsts n)) → new.firsts ≡ mid
+pub both_gone : (old new : WindowsByOrigin) (mid : Values Window) (origin : ℕ) → ((n : ℕ) → value_at mid n ≡ cond (n == origin) None (value_at old.firsts n)) → new.firsts ≡ mid
     → ((n : ℕ) → others_at new.others n ≡ cond (n == origin) [] (others_at old.others n)) → (o : ℕ) → windows_at new o ≡ cond (o == origin) [] (windows_at old o)
 both_gone old new mid origin first same left o = ap₂ with_first (ap (λ (f : Values Window). value_at f o) same ∙ first o) (left o) ∙ by (o == origin) where
   by : (b : Bool) → with_first (cond b None (value_at old.firsts o)) (cond b [] (others_at old.others o)) ≡ cond b [] (windows_at old o)

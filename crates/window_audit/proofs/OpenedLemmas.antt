@@ -13,7 +13,7 @@ use Rattle.seen_network.specs.Windows.{Describes, HasOpened, IsOpened, Opens, Op
 use Rattle.seen_network.specs.declared.window.Window.{Window}
 use Rattle.window_audit.specs.During.{IsFirst}
 use Rattle.window_audit.specs.Opening.{OpensWith}
-use Rattle.window_audit.specs.Past.{FrameOpens}
+use Rattle.window_audit.specs.WindowState.{FrameOpens}
 use Rattle.window_audit.specs.declared.opening.Opening.{Opening}
 
 -- the entry stands among them

@@ -9,7 +9,7 @@ use Rattle.net_base.specs.declared.trace.event.Event.TheVariants.{Frame}
 use Rattle.seen_network.specs.Once.{entered_as}
 use Rattle.seen_network.specs.Seen.{Seen, seen_from}
 use Rattle.seen_state.specs.Placed.{IsEventWithin}
-use Rattle.seen_state.specs.Sight.{sizes_of}
+use Rattle.seen_state.specs.SeenEdges.{sizes_of}
 use Rattle.seen_network.specs.EventEntries.{HasNoEvent, entered_place, tells_idle}
 use Rattle.window_audit.specs.Losses.{AreWithin}
 use Rattle.window_audit.specs.declared.during.During.{During}

@@ -1,10 +1,10 @@
 pub mod CalmMemory
 pub mod During
 pub mod Exits
-pub mod Lasting
+pub mod OpenWindows
 pub mod Losses
 pub mod Opening
-pub mod Past
+pub mod WindowState
 pub mod Sources
 pub mod Verdict
 pub mod Windows

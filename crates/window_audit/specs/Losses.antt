@@ -7,7 +7,7 @@ use Rattle.seen_state.specs.Placed.{IsWithin}
 use Rattle.seen_state.specs.SeenState.{Knows}
 use Rattle.seen_state.specs.declared.seen_state.SeenState.{SeenState}
 use Rattle.seen_state.specs.declared.sizes.Sizes.{Sizes}
-use Rattle.window_audit.specs.Lasting.{is_one_of}
+use Rattle.window_audit.specs.OpenWindows.{is_one_of}
 
 -- the frames of which no copy is under way any more are among these
 pub record ListsLosses (before after : Seen) (old new : List ℕ) : Type 0 where

@@ -4,17 +4,17 @@ use Rattle.net_base.specs.declared.plan.Plan.{Plan}
 use Rattle.net_base.specs.declared.trace.entry.Entry.{Entry}
 use Rattle.window_audit.specs.During.{AreKept, AreTold, with_event}
 use Rattle.window_audit.specs.Exits.{HasExits}
-use Rattle.window_audit.specs.Past.{HasWindows, IsPastOf}
+use Rattle.window_audit.specs.WindowState.{HasWindows, IsWindowStateOf}
 use Rattle.window_audit.specs.Sources.{HasSources}
 use Rattle.window_audit.specs.declared.windows.Windows.{Windows}
 
 -- so many entries were told
 abbrev pub told_count : Windows → ℕ
-told_count windows = windows.past.place + windows.during.count
+told_count windows = windows.known.place + windows.during.count
 
 -- they were begun for the plan; what is kept of the last event is placed in it; few enough entries were told to be counted
 pub record AreOf (plan : Plan) (windows : Windows) : Type 0 where
-  pub past : IsPastOf plan windows.past
+  pub known : IsWindowStateOf plan windows.known
   pub kept : AreKept plan windows.during
   pub few : told_count windows < 2 ^ 63
 
@@ -24,16 +24,16 @@ pub record HasHeard (plan : Plan) (trace : List Entry) (windows : Windows) : Typ
   pub done : List Entry
   pub rest : List Entry
   pub is : trace ≡ done ++ with_event windows.during.event rest
-  pub place : windows.past.place ≡ length done
+  pub place : windows.known.place ≡ length done
   pub none : windows.during.event ≡ None → done ≡ []
-  pub past : HasWindows plan done windows.past
+  pub known : HasWindows plan done windows.known
   pub told : AreTold rest windows.during
   pub sources : HasSources plan windows.sources trace
   pub exits : HasExits windows.exits trace
 
 -- the last event is over
 pub record HasPassed (plan : Plan) (trace : List Entry) (windows : Windows) : Type 0 where
-  pub place : windows.past.place ≡ length trace
-  pub past : HasWindows plan trace windows.past
+  pub place : windows.known.place ≡ length trace
+  pub known : HasWindows plan trace windows.known
   pub sources : HasSources plan windows.sources trace
   pub exits : HasExits windows.exits trace

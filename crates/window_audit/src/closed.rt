@@ -3,9 +3,9 @@ ghost use Rattle.std.specs.{Prelude.{◌≡◌, ◌++◌, ◌∷◌, [], List as
 ghost use Rattle.net_base.specs.{declared.plan.Plan.{Plan}, declared.trace.entry.Entry.{Entry}};
 ghost use Rattle.seen_network.specs.{Once.{is_sourced_by}, Seen.{Seen}};
 ghost use Rattle.seen_state.specs.SeenState.{Knows};
-ghost use Rattle.window_audit.specs.{Lasting.{HasClosed, are_copies_over, was_flooded, windows_at, with_first}, Sources.{HasSources}};
+ghost use Rattle.window_audit.specs.{OpenWindows.{HasClosed, are_copies_over, was_flooded, windows_at, with_first}, Sources.{HasSources}};
 
-use crate::lasting::Lasting;
+use crate::open_windows::OpenWindows;
 use crate::sources::Sources;
 use net_base::{NoMemory, ServiceId};
 use net_values::Mac;
@@ -14,34 +14,34 @@ use seen_state::SeenState;
 
 /// The windows of these frames are over where no copy of the frame is under way any more; those that were flooded are owed then.
 pub(crate) fn close(
-    lasting: &mut Lasting,
+    open_windows: &mut OpenWindows,
     owed: &mut Vec<Window>,
     state: &SeenState,
     sources: &Sources,
     losses: &[u64],
 ) -> Result<(), NoMemory>
-    ensures { OnOk result ((plan : Plan) (trace : Items Entry) (seen : Seen) → Knows state.now seen → HasSources plan sources.now trace → HasClosed (are_copies_over seen losses.now) (was_flooded plan trace) (windows_at lasting.old) (windows_at lasting.new) owed.old.items owed.new.items) }
+    ensures { OnOk result ((plan : Plan) (trace : Items Entry) (seen : Seen) → Knows state.now seen → HasSources plan sources.now trace → HasClosed (are_copies_over seen losses.now) (was_flooded plan trace) (windows_at open_windows.old) (windows_at open_windows.new) owed.old.items owed.new.items) }
 {
     for origin in losses {
-        close_one(lasting, owed, state, sources, *origin)?;
+        close_one(open_windows, owed, state, sources, *origin)?;
     }
     Ok(())
 }
 
 // The windows of one frame.
 fn close_one(
-    lasting: &mut Lasting,
+    open_windows: &mut OpenWindows,
     owed: &mut Vec<Window>,
     state: &SeenState,
     sources: &Sources,
     origin: u64,
 ) -> Result<(), NoMemory>
-    ensures { OnOk result ((plan : Plan) (trace : Items Entry) (seen : Seen) → Knows state.now seen → HasSources plan sources.now trace → HasClosed (are_copies_over seen (origin ∷ [])) (was_flooded plan trace) (windows_at lasting.old) (windows_at lasting.new) owed.old.items owed.new.items) }
+    ensures { OnOk result ((plan : Plan) (trace : Items Entry) (seen : Seen) → Knows state.now seen → HasSources plan sources.now trace → HasClosed (are_copies_over seen (origin ∷ [])) (was_flooded plan trace) (windows_at open_windows.old) (windows_at open_windows.new) owed.old.items owed.new.items) }
 {
     if state.has(origin) {
         return Ok(());
     }
-    let windows = lasting.take(origin);
+    let windows = open_windows.take(origin);
     owe_all(owed, sources, windows.first, windows.others.as_slice())
 }
 

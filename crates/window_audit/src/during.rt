@@ -2,7 +2,7 @@
 ghost use Rattle.std.specs.Prelude.{◌≡◌, ◌<◌, ◌+◌, ◌++◌, ◌∷◌, ◌||◌, ◌^◌, [], List, None, Some, false, IfSome, OnOk, option_map};
 ghost use Rattle.net_base.specs.declared.{plan.Plan.{Plan as Planned}, trace.entry.Entry.{Entry as Told}, trace.event.Event.TheVariants.{Frame}};
 ghost use Rattle.seen_network.specs.EventEntries.{HasNoEvent, is_idle_entry};
-ghost use Rattle.seen_state.specs.{Placed.{IsEventWithin, IsPlaced}, Sight.{sizes_of}};
+ghost use Rattle.seen_state.specs.{Placed.{IsEventWithin, IsPlaced}, SeenEdges.{sizes_of}};
 ghost use Rattle.window_audit.specs.During.{AreKept, AreTold, entered_by, first_or, moves, tells_event};
 
 use net_base::{CircuitId, Entry, Event, NoMemory};

@@ -3,7 +3,7 @@ ghost use Rattle.std.specs.Prelude.{◌≡◌, ◌<◌, ◌≤◌, ◌+◌, ◌^
 ghost use Rattle.seen_network.specs.{Once.{has_seen}, Seen.{Seen, happened, happened_or, seen_from, told_by_itself}};
 ghost use Rattle.seen_network.specs.EventEntries.{HasNoEvent};
 ghost use Rattle.seen_state.specs.{Copies.{TellsPackets}, Placed.{IsEventWithin, IsWithin}, SeenState.{Knows}};
-ghost use Rattle.window_audit.specs.{Lasting.{is_one_of}, Losses.{AreWithin, Follows}};
+ghost use Rattle.window_audit.specs.{OpenWindows.{is_one_of}, Losses.{AreWithin, Follows}};
 
 use net_base::{Entry, Event, NoMemory};
 use seen_state::{Copies, SeenState};
@@ -15,8 +15,8 @@ pub(crate) fn happen(
     idle: bool,
     losses: &mut Vec<u64>,
 ) -> Result<(), NoMemory>
-    requires { IsEventWithin state.old.sight.sizes event.now }
-    ensures sizes { state.new.sight.sizes ≡ state.old.sight.sizes }
+    requires { IsEventWithin state.old.seen_edges.sizes event.now }
+    ensures sizes { state.new.seen_edges.sizes ≡ state.old.seen_edges.sizes }
     ensures comings { state.new.copies.comings ≡ state.old.copies.comings }
     ensures few { OnOk result (length losses.new.items ≤ length losses.old.items + 1) }
     ensures follows { OnOk result ((seen : Seen) → Knows state.old seen → Follows seen (happened_or idle event.now seen) state.new losses.old.items losses.new.items) }
@@ -36,9 +36,9 @@ pub(crate) fn tell(
     losses: &mut Vec<u64>,
 ) -> Result<(), NoMemory>
     requires bare { HasNoEvent entries.now }
-    requires within { AreWithin state.old.sight.sizes entries.now }
+    requires within { AreWithin state.old.seen_edges.sizes entries.now }
     requires few { state.old.copies.comings + length entries.now < 2 ^ 63 }
-    ensures sizes { state.new.sight.sizes ≡ state.old.sight.sizes }
+    ensures sizes { state.new.seen_edges.sizes ≡ state.old.seen_edges.sizes }
     ensures comings { OnOk result (state.new.copies.comings ≤ state.old.copies.comings + length entries.now) }
     ensures few { OnOk result (length losses.new.items ≤ length losses.old.items + length entries.now) }
     ensures follows { OnOk result ((seen : Seen) → Knows state.old seen → Follows seen (seen_from seen entries.now) state.new losses.old.items losses.new.items) }
@@ -51,9 +51,9 @@ pub(crate) fn tell(
 
 // An entry is told.
 fn tell_one(state: &mut SeenState, entry: &Entry, losses: &mut Vec<u64>) -> Result<(), NoMemory>
-    requires within { IsWithin state.old.sight.sizes entry.now }
+    requires within { IsWithin state.old.seen_edges.sizes entry.now }
     requires few { state.old.copies.comings < 2 ^ 63 }
-    ensures sizes { state.new.sight.sizes ≡ state.old.sight.sizes }
+    ensures sizes { state.new.seen_edges.sizes ≡ state.old.seen_edges.sizes }
     ensures comings { OnOk result (state.new.copies.comings ≤ state.old.copies.comings + 1) }
     ensures few { OnOk result (length losses.new.items ≤ length losses.old.items + 1) }
     ensures follows { OnOk result ((seen : Seen) → Knows state.old seen → Follows seen (told_by_itself entry.now seen) state.new losses.old.items losses.new.items) }

@@ -3,7 +3,7 @@ ghost use Rattle.std.specs.Prelude.{◌≡◌, ◌<◌, ◌+◌, ◌^◌, List a
 ghost use Rattle.net_base.specs.{declared.trace.entry.Entry.{Entry as Told}, plan.Accepted.{IsWithinLimits}};
 ghost use Rattle.seen_network.specs.{Seen.{Seen, seen_in}, Windows.{IsOpened}};
 ghost use Rattle.seen_state.specs.SeenState.{Knows};
-ghost use Rattle.window_audit.specs.{CalmMemory.{Remembers}, During.{IsFirst}, Past.{FrameOpens, IsFirstOf}};
+ghost use Rattle.window_audit.specs.{CalmMemory.{Remembers}, During.{IsFirst}, WindowState.{FrameOpens, IsFirstOf}};
 
 use crate::calm_memory::CalmMemory;
 use crate::opening::open_at;

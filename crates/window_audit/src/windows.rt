@@ -3,13 +3,13 @@ ghost use Rattle.std.specs.Prelude.{◌≡◌, ◌<◌, ◌+◌, ◌++◌, ◌�
 ghost use Rattle.net_base.specs.declared.trace.entry.Entry.{Entry as Told, TheVariants.{Did}};
 ghost use Rattle.net_base.specs.plan.Accepted.{IsChecked, IsWithinLimits};
 ghost use Rattle.seen_network.specs.Verdict.{OnceAnswers};
-ghost use Rattle.seen_state.specs.{Placed.{IsEventWithin, IsPlaced}, Sight.{sizes_of}};
-ghost use Rattle.window_audit.specs.{During.{tells_event}, Past.{IsPastOf}, Windows.{AreOf, HasHeard, HasPassed, told_count}};
+ghost use Rattle.seen_state.specs.{Placed.{IsEventWithin, IsPlaced}, SeenEdges.{sizes_of}};
+ghost use Rattle.window_audit.specs.{During.{tells_event}, WindowState.{IsWindowStateOf}, Windows.{AreOf, HasHeard, HasPassed, told_count}};
 
 use crate::during::During;
 use crate::exits::Exits;
-use crate::past::Past;
 use crate::sources::Sources;
+use crate::window_state::WindowState;
 use net_base::{Entry, Event, NoMemory, Plan};
 use std::alloc::Global;
 
@@ -17,7 +17,7 @@ use std::alloc::Global;
 /// frames came from and left.
 #[derive(Drop)]
 pub struct Windows {
-    past: Past,
+    known: WindowState,
     during: During,
     sources: Sources,
     exits: Exits,
@@ -32,9 +32,9 @@ impl Windows {
         ensures count { IfOk result (λ windows. told_count windows ≡ 0) }
         ensures heard { IfOk result (HasHeard plan.now []) }
     {
-        match Past::new(alloc, plan) {
-            Ok(past) => Ok(Windows {
-                past,
+        match WindowState::new(alloc, plan) {
+            Ok(known) => Ok(Windows {
+                known,
                 during: During::new(alloc),
                 sources: Sources::new(alloc),
                 exits: Exits::new(alloc),
@@ -94,11 +94,11 @@ impl Windows {
     fn pass(&mut self, plan: &Plan) -> Result<(), NoMemory>
         requires limits { IsWithinLimits plan.now }
         requires ready { AreOf plan.now self.old }
-        ensures of { OnOk result (IsPastOf plan.now self.new.past) }
-        ensures place { OnOk result (self.new.past.place ≡ told_count self.old) }
+        ensures of { OnOk result (IsWindowStateOf plan.now self.new.known) }
+        ensures place { OnOk result (self.new.known.place ≡ told_count self.old) }
         ensures passed { OnOk result ((trace : List Told) → HasHeard plan.now trace self.old → HasPassed plan.now trace self.new) }
     {
-        self.past.pass(plan, &self.sources, &self.during)
+        self.known.pass(plan, &self.sources, &self.during)
     }
 
     /// The place in the trace, counted from 0, of the first `in` entry of a frame that was to be seen exactly once and was not; `None`
@@ -110,6 +110,6 @@ impl Windows {
     {
         let mut windows = self;
         windows.pass(plan)?;
-        Ok(windows.past.verdict(plan, &windows.exits))
+        Ok(windows.known.verdict(plan, &windows.exits))
     }
 }

@@ -1,11 +1,11 @@
 -- The entries of the lines read so far were heard, and the rest tells those behind them.
 use Rattle.std.proofs.Common.{◌≡◌, ◌≤◌, ◌+◌, [], length}
-use Rattle.trace_audit.specs.Heard.{AreEarsOf, IsBehind}
+use Rattle.trace_audit.specs.Heard.{IsAuditOf, IsBehind}
 use Rattle.trace_audit.proofs.report_audit.hear_lines.Given as goal
 
 abbrev pub invariant-reading : goal.invariant-reading
 invariant-reading l = (l.reader.waits ≡ []) × ((l.reader.tally.lines + l.left ≤ length l.text + 1)
-    × ((l.ears.judge.line + l.left ≤ length l.text + 1) × ((AreEarsOf l.plan l.ears) × (IsBehind l.plan l.text l.left l.reader l.ears))))
+    × ((l.rule_audit.path_audit.line + l.left ≤ length l.text + 1) × ((IsAuditOf l.plan l.rule_audit) × (IsBehind l.plan l.text l.left l.reader l.rule_audit))))
 
 abbrev pub decreases-reading : goal.decreases-reading
 decreases-reading l = l.left

@@ -1,6 +1,6 @@
 use Rattle.std.specs.List.{filter}
 use Rattle.std.proofs.lemmas.List.{at_drop_all}
-use Rattle.window_audit.specs.Lasting.{was_flooded}
+use Rattle.window_audit.specs.OpenWindows.{was_flooded}
 use Rattle.window_audit.proofs.ClosingLemmas.{owes_more, owes_whole}
 use Rattle.window_audit.proofs.closed.owe.Goals as goal
 

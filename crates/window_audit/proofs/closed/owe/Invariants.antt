@@ -2,7 +2,7 @@ use Rattle.std.proofs.Common.{◌≡◌, ◌++◌, List, drop}
 use Rattle.std.specs.List.{filter}
 use Rattle.net_base.specs.declared.plan.Plan.{Plan}
 use Rattle.net_base.specs.declared.trace.entry.Entry.{Entry}
-use Rattle.window_audit.specs.Lasting.{was_flooded}
+use Rattle.window_audit.specs.OpenWindows.{was_flooded}
 use Rattle.window_audit.specs.Sources.{HasSources}
 use Rattle.window_audit.proofs.closed.owe.Given as goal
 

@@ -1,5 +1,5 @@
 use Rattle.std.proofs.lemmas.Result.{on_ok_weaker}
-use Rattle.window_audit.specs.Lasting.{was_flooded}
+use Rattle.window_audit.specs.OpenWindows.{was_flooded}
 use Rattle.window_audit.proofs.OpenLemmas.{owed_both}
 use Rattle.window_audit.proofs.closed.owe_both.Goals as goal
 

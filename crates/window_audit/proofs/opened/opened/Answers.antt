@@ -2,7 +2,7 @@
 use Rattle.std.proofs.Common.{◌∙◌, List, ℕ, subst, sym}
 use Rattle.net_base.specs.declared.trace.event.Event.{Event}
 use Rattle.seen_network.specs.Windows.{IsOpened}
-use Rattle.window_audit.specs.Past.{FrameOpens}
+use Rattle.window_audit.specs.WindowState.{FrameOpens}
 use Rattle.window_audit.proofs.OpenedLemmas.{frame_opens, none_opens}
 use Rattle.window_audit.proofs.opened.opened.Goals as goal
 
