@@ -30,8 +30,8 @@ use Rattle.scenario_text.specs.References.{circuit_in, circuit_plans, groups_dif
 use Rattle.scenario_text.specs.Rows.{circuit_row_in, edge_in, group_row_in, items_length, row_members, rows_in, service_in, wire_row_in}
 use Rattle.scenario_text.specs.Top.{Arrays, a_version, arrays_at, arrays_in, few, few_in, most_circuits, most_edges, most_groups, most_services, most_wires}
 use Rattle.scenario_text.specs.Values.{needed}
-use Rattle.migrated_text.proofs.SaidLemmas.{commands_said}
-use Rattle.migrated_text.specs.Law.{AreSaidCommands}
+use Rattle.migration.proofs.SaidCommandLemmas.{commands_said}
+use Rattle.migration.specs.CommandLaw.{AreSaidCommands}
 use Rattle.migration.proofs.PlanLemmas.{pair_left, pair_right}
 use Rattle.migration.proofs.ReadPlanLemmas.{read_plan}
 use Rattle.migration.proofs.SaidLemmas.{if_ok, if_any, plan_in_ok, sound_ok}

@@ -6,7 +6,7 @@ use Rattle.std.proofs.lemmas.Bool.{and_parts}
 use Rattle.std.proofs.lemmas.Bool.Decides.{nat_tests}
 use Rattle.std.proofs.lemmas.Fmt.{decimal_by_steps, decimal_injective, length-decimal-le}
 use Rattle.net_values.specs.Name.{IsName, is_name_octet_of}
-use Rattle.migrated_text.specs.Groups.{group_name}
+use Rattle.migration.specs.Groups.{group_name}
 
 all_and : (ds : List ℕ) (d : ℕ) → list_all is_name_octet_of ds ≡ true → is_name_octet_of d ≡ true → list_all is_name_octet_of (ds ++ d ∷ []) ≡ true
 all_and [] d all this = rw this refl

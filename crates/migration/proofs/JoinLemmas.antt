@@ -14,11 +14,11 @@ use Rattle.scenario_text.specs.declared.scenario.Scenario.{Scenario}
 use Rattle.scenario_text.specs.Document.{document, scenario_in, scenario_or, scenario_with}
 use Rattle.scenario_text.specs.Rows.{items_length}
 use Rattle.scenario_text.specs.Values.{all_items, is_string}
-use Rattle.migrated_text.proofs.CommandLemmas.{reads_all}
-use Rattle.migrated_text.specs.Commands.{event_items}
-use Rattle.migrated_text.specs.Law.{AreSaidCommands, IsSaidCommand}
-use Rattle.migrated_text.specs.Migrated.{migrated}
-use Rattle.migrated_text.specs.Sayable.{IsSayable, IsSayableScenario}
+use Rattle.migration.proofs.CommandLemmas.{reads_all}
+use Rattle.migration.specs.Commands.{event_items}
+use Rattle.migration.specs.CommandLaw.{AreSaidCommands, IsSaidCommand}
+use Rattle.migration.specs.Migrated.{migrated}
+use Rattle.migration.specs.Sayable.{IsSayable, IsSayableScenario}
 use Rattle.migration.proofs.AcceptedLemmas.{IsReadScenario, has_names, read_scenario_is}
 use Rattle.migration.proofs.TopLemmas.{scenario_read}
 use Rattle.migration.specs.Law.{IsMigrated, ReadsWhatIsMigrated, WasRead}

@@ -16,10 +16,10 @@ use Rattle.scenario_text.specs.Keys.{is_offer_key}
 use Rattle.scenario_text.specs.Values.{a_boolean, a_mode, a_number, a_description, defaulted, optional}
 use Rattle.scenario_text.specs.Rows.{a_group, near_in, offer_table_in}
 use Rattle.scenario_text.specs.References.{told_unless_zero, offer_from}
-use Rattle.toml_tables.specs.Tables.{put, put_told}
-use Rattle.toml_tables.proofs.KeyLemmas.{put_same, put_other, put_keys, told_keys, all_keys}
-use Rattle.migrated_text.specs.Groups.{group_name}
-use Rattle.migrated_text.specs.Rows.{number, mode_name, put_group, offer_table}
+use Rattle.migration.specs.Tables.{put, put_told}
+use Rattle.migration.proofs.KeyLemmas.{put_same, put_other, put_keys, told_keys, all_keys}
+use Rattle.migration.specs.Groups.{group_name}
+use Rattle.migration.specs.Rows.{number, mode_name, put_group, offer_table}
 use Rattle.migration.specs.ReadPlan.{IsSaid, IsTold}
 use Rattle.migration.proofs.GroupNameLemmas.{group_named}
 use Rattle.migration.proofs.ReadLemmas.{skip, skip_told, defaulted_is, defaulted_none, optional_is, optional_none, number_is, mode_is, description_is, known}

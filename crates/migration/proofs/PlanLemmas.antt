@@ -22,8 +22,8 @@ use Rattle.command_text.specs.declared.row_place.RowPlace.{RowPlace}
 use Rattle.scenario_text.specs.declared.document_version.DocumentVersion.TheVariants.{Two}
 use Rattle.scenario_text.specs.Rows.{edge_in, service_in, group_row_in, circuit_row_in, wire_row_in, rows_in}
 use Rattle.scenario_text.specs.References.{circuit_in, circuit_plans, path_in, wire_in, wires_in, placed_rows, plan_of, mtu_at}
-use Rattle.migrated_text.specs.Groups.{used_groups}
-use Rattle.migrated_text.specs.Rows.{edge_table, service_table, group_table, circuit_table, wire_table}
+use Rattle.migration.specs.Groups.{used_groups}
+use Rattle.migration.specs.Rows.{edge_table, service_table, group_table, circuit_table, wire_table}
 use Rattle.migration.specs.ReadPlan.{IsQuad, IsSaid, IsReadPlan}
 use Rattle.migration.proofs.GroupNameLemmas.{group_named}
 use Rattle.migration.proofs.RowLemmas.{edge_read, service_read, group_of, group_read}

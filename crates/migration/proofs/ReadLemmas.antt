@@ -18,9 +18,9 @@ use Rattle.scenario_text.specs.declared.document_version.DocumentVersion.{Docume
 use Rattle.scenario_text.specs.Keys.{is_known_key, unknown_keys, least, none_unknown, only_known}
 use Rattle.scenario_text.specs.Values.{a_name, an_address, a_number, a_mode, a_class, a_description, quad_of, needed, defaulted, optional}
 use Rattle.scenario_text.proofs.QuadLemmas.{quad_read}
-use Rattle.toml_tables.specs.Tables.{put, put_told, put_some}
-use Rattle.toml_tables.proofs.KeyLemmas.{put_other, told_other, some_other, all_keys}
-use Rattle.migrated_text.specs.Rows.{class_name, mode_name}
+use Rattle.migration.specs.Tables.{put, put_told, put_some}
+use Rattle.migration.proofs.KeyLemmas.{put_other, told_other, some_other, all_keys}
+use Rattle.migration.specs.Rows.{class_name, mode_name}
 use Rattle.migration.specs.ReadPlan.{IsDescription, IsQuad}
 
 -- a key behind others

@@ -13,9 +13,9 @@ use Rattle.scenario_text.specs.declared.group_row.GroupRow.{GroupRow}
 use Rattle.scenario_text.specs.Keys.{is_known_key}
 use Rattle.scenario_text.specs.Values.{a_name, an_address, a_number}
 use Rattle.scenario_text.specs.Rows.{edge_in, service_in, group_row_in}
-use Rattle.toml_tables.proofs.KeyLemmas.{put_same, put_keys, all_keys}
-use Rattle.migrated_text.specs.Groups.{group_name}
-use Rattle.migrated_text.specs.Rows.{number, edge_table, service_table, group_table}
+use Rattle.migration.proofs.KeyLemmas.{put_same, put_keys, all_keys}
+use Rattle.migration.specs.Groups.{group_name}
+use Rattle.migration.specs.Rows.{number, edge_table, service_table, group_table}
 use Rattle.migration.specs.ReadPlan.{IsQuad}
 use Rattle.migration.proofs.ReadLemmas.{skip, needed_is, defaulted_is, name_is, number_is, address_is, known}
 

@@ -14,11 +14,11 @@ use Rattle.scenario_text.specs.Values.{all_items, an_array, is_string, defaulted
 use Rattle.scenario_text.specs.Rows.{items_length}
 use Rattle.scenario_text.specs.Top.{Arrays, a_version, is_table, few, few_in, arrays_at, arrays_in, most_edges, most_services, most_groups, most_circuits, most_wires}
 use Rattle.scenario_text.specs.Document.{plan_in, scenario_in, scenario_with}
-use Rattle.toml_tables.specs.Tables.{put_some}
-use Rattle.toml_tables.proofs.KeyLemmas.{put_same, put_keys, some_keys, all_keys}
-use Rattle.migrated_text.specs.Groups.{used_groups}
-use Rattle.migrated_text.specs.Rows.{number, edge_table, service_table, group_table, circuit_table, wire_table}
-use Rattle.migrated_text.specs.Migrated.{plan_table, top_table}
+use Rattle.migration.specs.Tables.{put_some}
+use Rattle.migration.proofs.KeyLemmas.{put_same, put_keys, some_keys, all_keys}
+use Rattle.migration.specs.Groups.{used_groups}
+use Rattle.migration.specs.Rows.{number, edge_table, service_table, group_table, circuit_table, wire_table}
+use Rattle.migration.specs.Migrated.{plan_table, top_table}
 use Rattle.migration.specs.ReadPlan.{IsReadPlan}
 use Rattle.migration.proofs.ReadLemmas.{skip, skip_some, needed_is, defaulted_is, defaulted_none, known}
 use Rattle.migration.proofs.UseLemmas.{groups_are}

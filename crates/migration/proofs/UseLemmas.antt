@@ -5,7 +5,7 @@ use Rattle.std.proofs.lemmas.Bool.Decides.{nat_tests}
 use Rattle.std.specs.List.{list_any}
 use Rattle.net_base.specs.declared.plan.wire_plan.WirePlan.{WirePlan}
 use Rattle.net_base.specs.plan.Faults.{first_clash}
-use Rattle.migrated_text.specs.Groups.{used_also, used_after, used_groups}
+use Rattle.migration.specs.Groups.{used_also, used_after, used_groups}
 use Rattle.migration.proofs.NamedLemmas.{AreNumbers, and_number, once_more}
 
 -- the group of an end is 0, or among those that are used

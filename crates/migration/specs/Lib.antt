@@ -1,2 +1,9 @@
+pub mod CommandLaw
+pub mod Commands
+pub mod Groups
 pub mod Law
+pub mod Migrated
 pub mod ReadPlan
+pub mod Rows
+pub mod Sayable
+pub mod Tables

@@ -2,7 +2,7 @@
 ghost use Rattle.std.specs.Prelude.{string_bytes, IfOk};
 ghost use Rattle.migration.specs.Law.{IsMigrated, WasRead};
 
-use migrated_text::migrated_text;
+use crate::document::migrated_text;
 use net_base::NoMemory;
 use scenario_text::Scenario;
 use std::alloc::Global;

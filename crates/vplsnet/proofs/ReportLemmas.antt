@@ -26,7 +26,7 @@ use Rattle.report_laws.specs.Places.{CommandsFromOne, CountsFromOne}
 use Rattle.report_laws.specs.Types.{IsTypedEntry}
 use Rattle.report_laws.proofs.MadeLemmas.{made_count}
 use Rattle.report_laws.proofs.ReportLemmas.{reported_by}
-use Rattle.migrated_text.specs.Sayable.{IsSayable}
+use Rattle.migration.specs.Sayable.{IsSayable}
 use Rattle.migration.proofs.AcceptedLemmas.{read_scenario_is}
 use Rattle.migration.proofs.JoinLemmas.{was_read, was_sayable}
 use Rattle.migration.specs.Law.{WasRead}

@@ -1,5 +1,5 @@
 use Rattle.std.proofs.Common.{subst, sym}
-use Rattle.migrated_text.specs.Sayable.{IsSayableScenario}
+use Rattle.migration.specs.Sayable.{IsSayableScenario}
 use Rattle.migration.proofs.JoinLemmas.{migrated_is, was_sayable}
 use Rattle.migration.proofs.text.migrate.Goals as goal
 

@@ -1,4 +1,0 @@
-pub mod CommandLemmas
-pub mod SaidLemmas
-pub mod ShallowLemmas
-pub mod TextLemmas

@@ -1,0 +1,280 @@
+-- Commands that were read can be said.
+use Rattle.std.proofs.Common.{◌≡◌, ◌<◌, ◌≤◌, ◌+◌, ◌-◌, ◌*◌, ◌&&◌, ◌^◌, nat_le, nat_lt, ℕ, zero, suc, Bool, true, false, cond, List, [], ◌∷◌, length, map, take, Option, Some, None, is_some, option_and_then, option_map, Result, Ok, Err, IfOk, IfSome, codes, leb-true, refl, sym, subst, arith, inl, inr, if◌then◌else◌}
+use Rattle.std.proofs.lemmas.Bool.{and_parts, cases_Bool}
+use Rattle.std.proofs.lemmas.Bool.Decides.{Decides-ltb}
+use Rattle.std.proofs.lemmas.List.{length-map}
+use Rattle.std.specs.List.{All, position_or_len}
+use Rattle.std.specs.Str.{bytes_eq}
+use Rattle.toml.specs.Data.{Items, no_items, item, as_str}
+use Rattle.net_base.specs.declared.plan.Plan.{Plan}
+use Rattle.net_base.specs.declared.trace.event.Event.{Event}
+use Rattle.net_base.specs.declared.trace.event.Event.TheVariants.{Tick, Arrive, Discard, Again}
+use Rattle.net_base.specs.plan.NameFaults.{edge_names, circuit_names, wire_names}
+use Rattle.net_base.specs.plan.Planned.{IsEventOf}
+use Rattle.command_text.specs.declared.command.Command.{Command}
+use Rattle.command_text.specs.declared.command.Command.TheVariants.{One, Ticks}
+use Rattle.command_text.specs.declared.scenario_fault.ScenarioFault.{ScenarioFault}
+use Rattle.command_text.specs.declared.scenario_fault.ScenarioFault.TheVariants.{BadWord}
+use Rattle.command_text.specs.Reading.{◌>>=◌, checked, found}
+use Rattle.command_text.specs.Planned.{IsCount, names_of}
+use Rattle.command_text.specs.Events.{connect_in, deliver_in, lose_in, restart_in, frame_event_in, packet_in, wire_switch_in, circuit_switch_in, status_in, priority_event_in, ping_in, repeats_in, tick_in, play_in, one, many_of, part_command, packet_command, command_of, event_in, plays_after, commands_in}
+use Rattle.command_text.specs.Hex.{digit_value, pair_value, unhex, of_frame_size, frame_of}
+use Rattle.command_text.specs.Names.{place_in}
+use Rattle.command_text.specs.Words.{is_space, after_word, first_word, word_after, word_at, said_word, ends_before, value_from, is_decimal, decimal_from, switch_of, some_word}
+use Rattle.command_text.proofs.NameLemmas.{place_within}
+use Rattle.event_laws.specs.Law.{IsEventInRange, IsPacket, IsWritable}
+use Rattle.migration.specs.CommandLaw.{HasNoBlank, IsSaidCommand, AreSaidCommands}
+
+-- reading in steps
+if_ok : {A B : Type 0} {Q : A → Type 0} (P : B → Type 0) (r : Result A ScenarioFault) (f : A → Result B ScenarioFault) → IfOk r Q → ((x : A) → Q x → IfOk (f x) P) → IfOk (r >>= f) P
+if_ok P (Ok x) f q g = g x q
+if_ok P (Err e) f q g = tt
+
+if_any : {A B : Type 0} (P : B → Type 0) (r : Result A ScenarioFault) (f : A → Result B ScenarioFault) → ((x : A) → IfOk (f x) P) → IfOk (r >>= f) P
+if_any P (Ok x) f g = g x
+if_any P (Err e) f g = tt
+
+-- words
+said_ok : {A : Type 0} (P : A → Type 0) (reader : List ℕ → Option A) → ((word : List ℕ) → IfSome (reader word) P) → (event number : ℕ) (text : List ℕ) → IfOk (said_word reader event number text) P
+said_ok {A} P reader each event number text = of_word (word_at number text)
+  where
+    of_value : (o : Option A) → IfSome o P → IfOk (found (BadWord event number) o) P
+    of_value None is = tt
+    of_value (Some x) is = is
+
+    of_word : (word : Option (List ℕ)) → IfOk (found (BadWord event number) (option_and_then reader word)) P
+    of_word None = tt
+    of_word (Some word) = of_value (reader word) (each word)
+
+if_some : {A : Type 0} (P : A → Type 0) (test : Bool) (x : A) → (test ≡ true → P x) → IfSome (cond test (Some x) None) P
+if_some P true x p = p refl
+if_some P false x p = tt
+
+row_ok : {Y : Type 0} (f : Y → List ℕ) (rows : List Y) (word : List ℕ) → IfSome (place_in (map f rows) word) (λ place. place < length rows)
+row_ok f rows word = subst (λ n. IfSome (place_in (map f rows) word) (λ place. place < n)) (length-map rows f) (place_within (map f rows) word)
+
+number_ok : (low high : ℕ) (word : List ℕ) → IfSome (decimal_from low high word) (λ n. (low ≤ n) × (n ≤ high))
+number_ok low high word = if_some _ (is_decimal word && (nat_le low (value_from 0 word) && nat_le (value_from 0 word) high)) (value_from 0 word) (λ is.
+    let range = (and_parts (is_decimal word) (nat_le low (value_from 0 word) && nat_le (value_from 0 word) high) is).1 in
+    let both = and_parts (nat_le low (value_from 0 word)) (nat_le (value_from 0 word) high) range in
+    (leb-true low (value_from 0 word) both.0, leb-true (value_from 0 word) high both.1))
+
+-- octets of hexadecimal digits
+choose : (P : ℕ → Type 0) (s t u : Bool) (x y z : ℕ) → (s ≡ true → P x) → (t ≡ true → P y) → (u ≡ true → P z) → IfSome (if s then Some x else if t then Some y else if u then Some z else None) P
+choose P true t u x y z p q r = p refl
+choose P false true u x y z p q r = q refl
+choose P false false true x y z p q r = r refl
+choose P false false false x y z p q r = tt
+
+between : (low high n : ℕ) → (nat_le low n && nat_le n high) ≡ true → (low ≤ n) × (n ≤ high)
+between low high n is =
+    let both = and_parts (nat_le low n) (nat_le n high) is in
+    (leb-true low n both.0, leb-true n high both.1)
+
+digit_ok : (c : ℕ) → IfSome (digit_value c) (λ v. v < 16)
+digit_ok c =
+    choose _ (nat_le 48 c && nat_le c 57) (nat_le 97 c && nat_le c 102) (nat_le 65 c && nat_le c 70) (c - 48) (c - 97 + 10) (c - 65 + 10)
+    (λ is. let r = between 48 57 c is in omega (arith, r.0, r.1)) (λ is. let r = between 97 102 c is in omega (arith, r.0, r.1)) (λ is. let r = between 65 70 c is in omega (arith, r.0, r.1))
+
+pair_ok : (a b : ℕ) → IfSome (pair_value a b) (λ octet. octet < 256)
+pair_ok a b = of_both (digit_value a) (digit_value b) (digit_ok a) (digit_ok b)
+  where
+    of_both : (x y : Option ℕ) → IfSome x (λ v. v < 16) → IfSome y (λ v. v < 16) → IfSome (option_and_then (λ high. option_map (λ low. high * 16 + low) y) x) (λ octet. octet < 256)
+    of_both None y p q = tt
+    of_both (Some high) None p q = tt
+    of_both (Some high) (Some low) p q = omega (arith, p, q)
+
+abbrev EachOctet : List ℕ → Type 0
+EachOctet [] = Unit {0}
+EachOctet (octet ∷ rest) = (octet < 256) × EachOctet rest
+
+unhex_ok : (digits : List ℕ) → IfSome (unhex digits) EachOctet
+unhex_ok [] = tt
+unhex_ok (a ∷ []) = tt
+unhex_ok (a ∷ b ∷ rest) = of_both (pair_value a b) (unhex rest) (pair_ok a b) (unhex_ok rest)
+  where
+    of_both : (x : Option ℕ) (y : Option (List ℕ)) → IfSome x (λ octet. octet < 256) → IfSome y EachOctet → IfSome (option_and_then (λ octet. option_map (λ octets. octet ∷ octets) y) x) EachOctet
+    of_both None y p q = tt
+    of_both (Some octet) None p q = tt
+    of_both (Some octet) (Some octets) p q = (p, q)
+
+all_octets : (octets : List ℕ) → EachOctet octets → All (λ octet. octet < 256) octets
+all_octets [] each k d lt = absurd (omega (arith, lt))
+all_octets (octet ∷ rest) each zero d lt = each.0
+all_octets (octet ∷ rest) each (suc k) d lt = all_octets rest each.1 k d (omega (arith, lt))
+
+frame_ok : (word : List ℕ) → IfSome (frame_of word) IsWritable
+frame_ok word = of_octets (unhex word) (unhex_ok word)
+  where
+    of_octets : (o : Option (List ℕ)) → IfSome o EachOctet → IfSome (option_and_then of_frame_size o) IsWritable
+    of_octets None each = tt
+    of_octets (Some octets) each = if_some _ (nat_le 1 (length octets) && nat_le (length octets) 9216) octets (λ is.
+        let size = between 1 9216 (length octets) is in
+        record { each = all_octets octets each; some = size.0; few = size.1 })
+
+-- a word has no blank
+first_clean : (text : List ℕ) → HasNoBlank (first_word text)
+first_clean [] = tt
+first_clean (c ∷ cs) = elim (cases_Bool (is_space c)) [
+  | inl is ↦
+      let here : position_or_len is_space (c ∷ cs) ≡ 0 = rw is refl in
+      subst (λ n. HasNoBlank (take n (c ∷ cs))) (sym here) tt
+  | inr other ↦
+      let more : position_or_len is_space (c ∷ cs) ≡ suc (position_or_len is_space cs) = rw other (omega arith) in
+      subst (λ n. HasNoBlank (take n (c ∷ cs))) (sym more) (other, first_clean cs)
+]
+
+word_clean : (n : ℕ) (text : List ℕ) → IfSome (word_after n text) HasNoBlank
+word_clean zero text = first_clean text
+word_clean (suc n) text = of_rest (λ rest. word_clean n rest) (after_word text)
+  where
+    of_rest : ((rest : List ℕ) → IfSome (word_after n rest) HasNoBlank) → (rest : Option (List ℕ)) → IfSome (option_and_then (word_after n) rest) HasNoBlank
+    of_rest later None = tt
+    of_rest later (Some rest) = later rest
+
+file_ok : (event number : ℕ) (text : List ℕ) → IfOk (said_word some_word event number text) (λ word. (1 ≤ length word) × HasNoBlank word)
+unfolding word_at
+file_ok event number text = of_word (word_after (number - 1) text) (word_clean (number - 1) text)
+  where
+    of_test : (test : Bool) (word : List ℕ) → nat_lt 0 (length word) ≡ test → HasNoBlank word
+        → IfOk (found (BadWord event number) (if test then Some word else None)) (λ w. (1 ≤ length w) × HasNoBlank w)
+    of_test true word is clean = ((Decides-ltb 0 (length word)).0 is, clean)
+    of_test false word is clean = tt
+
+    of_word : (word : Option (List ℕ)) → IfSome word HasNoBlank → IfOk (found (BadWord event number) (option_and_then some_word word)) (λ w. (1 ≤ length w) × HasNoBlank w)
+    of_word None clean = tt
+    of_word (Some word) clean = of_test (nat_lt 0 (length word)) word refl clean
+
+-- events
+abbrev IsSaidEvent : Plan → Event → Type 0
+IsSaidEvent plan event = IsEventOf plan event × IsEventInRange event
+
+module _ (plan : Plan) (number : ℕ) (text : List ℕ) where
+  edge_word : (at : ℕ) → IfOk (said_word (place_in (edge_names plan.edges)) number at text) (λ place. place < length plan.edges)
+  edge_word at = said_ok _ (place_in (edge_names plan.edges)) (row_ok (λ row. row.name) plan.edges) number at text
+
+  circuit_word : (at : ℕ) → IfOk (said_word (place_in (circuit_names plan.circuits)) number at text) (λ place. place < length plan.circuits)
+  circuit_word at = said_ok _ (place_in (circuit_names plan.circuits)) (row_ok (λ row. row.name) plan.circuits) number at text
+
+  wire_word : (at : ℕ) → IfOk (said_word (place_in (wire_names plan.wires)) number at text) (λ place. place < length plan.wires)
+  wire_word at = said_ok _ (place_in (wire_names plan.wires)) (row_ok (λ row. row.name) plan.wires) number at text
+
+  number_word : (low high at : ℕ) → IfOk (said_word (decimal_from low high) number at text) (λ n. (low ≤ n) × (n ≤ high))
+  number_word low high at = said_ok _ (decimal_from low high) (number_ok low high) number at text
+
+  connect_ok : IfOk (connect_in (names_of plan) number text) (IsSaidEvent plan)
+  unfolding connect_in
+  connect_ok = if_ok _ (said_word (place_in (edge_names plan.edges)) number 2 text) _ (edge_word 2) (λ a p. if_ok _ (said_word (place_in (edge_names plan.edges)) number 3 text) _ (edge_word 3) (λ b q.
+      if_any _ (ends_before number 4 text) _ (λ end. ((p, q), tt))))
+
+  deliver_ok : IfOk (deliver_in (names_of plan) number text) (IsSaidEvent plan)
+  unfolding deliver_in
+  deliver_ok = if_ok _ (said_word (place_in (edge_names plan.edges)) number 2 text) _ (edge_word 2) (λ a p. if_ok _ (said_word (place_in (edge_names plan.edges)) number 3 text) _ (edge_word 3) (λ b q.
+      if_ok _ (said_word (decimal_from 1 65535) number 4 text) _ (number_word 1 65535 4) (λ n r. if_any _ (ends_before number 5 text) _ (λ end. ((p, q), r)))))
+
+  lose_ok : IfOk (lose_in (names_of plan) number text) (IsSaidEvent plan)
+  unfolding lose_in
+  lose_ok = if_ok _ (said_word (place_in (edge_names plan.edges)) number 2 text) _ (edge_word 2) (λ a p. if_ok _ (said_word (place_in (edge_names plan.edges)) number 3 text) _ (edge_word 3) (λ b q.
+      if_any _ (ends_before number 4 text) _ (λ end. ((p, q), tt))))
+
+  restart_ok : IfOk (restart_in (names_of plan) number text) (IsSaidEvent plan)
+  unfolding restart_in
+  restart_ok = if_ok _ (said_word (place_in (edge_names plan.edges)) number 2 text) _ (edge_word 2) (λ a p. if_any _ (ends_before number 3 text) _ (λ end. (p, tt)))
+
+  frame_event_ok : IfOk (frame_event_in (names_of plan) number text) (IsSaidEvent plan)
+  unfolding frame_event_in
+  frame_event_ok = if_ok _ (said_word (place_in (circuit_names plan.circuits)) number 2 text) _ (circuit_word 2)
+      (λ a p. if_ok _ (said_word frame_of number 3 text) _ (said_ok _ frame_of frame_ok number 3 text) (λ octets w.
+      if_any _ (ends_before number 4 text) _ (λ end. ((p, omega (arith, w.few)), w))))
+
+  packet_ok : IfOk (packet_in number text) IsPacket
+  unfolding packet_in
+  packet_ok = if_ok _ (said_word (decimal_from 1 (2 ^ 64 - 1)) number 2 text) _ (number_word 1 (2 ^ 64 - 1) 2) (λ n r. if_any _ (ends_before number 3 text) _ (λ end. (r.0, omega (arith, r.1))))
+
+  wire_ok : IfOk (wire_switch_in (names_of plan) number text) (IsSaidEvent plan)
+  unfolding wire_switch_in
+  wire_ok = if_ok _ (said_word (place_in (edge_names plan.edges)) number 2 text) _ (edge_word 2) (λ a p. if_ok _ (said_word (place_in (wire_names plan.wires)) number 3 text) _ (wire_word 3) (λ b q.
+      if_any _ (said_word switch_of number 4 text) _ (λ on. if_any _ (ends_before number 5 text) _ (λ end. ((p, q), tt)))))
+
+  switch_ok : IfOk (circuit_switch_in (names_of plan) number text) (IsSaidEvent plan)
+  unfolding circuit_switch_in
+  switch_ok = if_ok _ (said_word (place_in (circuit_names plan.circuits)) number 2 text) _ (circuit_word 2)
+      (λ a p. if_any _ (said_word switch_of number 3 text) _ (λ on. if_any _ (ends_before number 4 text) _ (λ end. (p, tt))))
+
+  status_ok : IfOk (status_in (names_of plan) number text) (IsSaidEvent plan)
+  unfolding status_in
+  status_ok = if_ok _ (said_word (place_in (edge_names plan.edges)) number 2 text) _ (edge_word 2) (λ a p. if_ok _ (said_word (place_in (wire_names plan.wires)) number 3 text) _ (wire_word 3) (λ b q.
+      if_ok _ (said_word (decimal_from 0 31) number 4 text) _ (number_word 0 31 4) (λ n r. if_any _ (ends_before number 5 text) _ (λ end. ((p, q, r.1), tt)))))
+
+  priority_ok : IfOk (priority_event_in (names_of plan) number text) (IsSaidEvent plan)
+  unfolding priority_event_in
+  priority_ok = if_ok _ (said_word (place_in (edge_names plan.edges)) number 2 text) _ (edge_word 2)
+      (λ a p. if_ok _ (said_word (place_in (wire_names plan.wires)) number 3 text) _ (wire_word 3) (λ b q.
+      if_ok _ (said_word (decimal_from 0 255) number 4 text) _ (number_word 0 255 4) (λ n r. if_any _ (ends_before number 5 text) _ (λ end. ((p, q), r.1)))))
+
+  ping_ok : IfOk (ping_in (names_of plan) number text) (IsSaidEvent plan)
+  unfolding ping_in
+  ping_ok = if_ok _ (said_word (place_in (edge_names plan.edges)) number 2 text) _ (edge_word 2) (λ a p. if_ok _ (said_word (place_in (wire_names plan.wires)) number 3 text) _ (wire_word 3) (λ b q.
+      if_any _ (ends_before number 4 text) _ (λ end. ((p, q), tt))))
+
+  repeats_ok : IfOk (repeats_in number text) IsCount
+  unfolding repeats_in
+  repeats_ok = if_ok _ (said_word (decimal_from 1 10000) number 2 text) _ (number_word 1 10000 2) (λ n r. if_any _ (ends_before number 3 text) _ (λ end. r))
+
+-- a command of either kind
+of_if : (P : Command → Type 0) (test : Bool) (a b : Result Command ScenarioFault) → IfOk a P → IfOk b P → IfOk (if test then a else b) P
+of_if P true a b p q = p
+of_if P false a b p q = q
+
+module _ (plan : Plan) (number plays : ℕ) (text : List ℕ) where
+  one_ok : (read : Result Event ScenarioFault) → IfOk read (IsSaidEvent plan) → IfOk (one read) (IsSaidCommand plan plays)
+  one_ok read is = if_ok _ read _ is (λ event said. said)
+
+  tick_ok : IfOk (tick_in number text) (IsSaidCommand plan plays)
+  tick_ok = of_if _ (is_some (word_at 2 text)) (repeats_in number text >>= (λ count. Ok (Ticks count))) (Ok (One Tick))
+      (if_ok _ (repeats_in number text) _ (repeats_ok plan number text) (λ count is. is)) (tt, tt)
+
+  few_ok : IfOk (checked (BadWord number 1) (nat_lt plays 4)) (λ _. plays < 4)
+  few_ok = of_test (nat_lt plays 4) refl
+    where
+      of_test : (test : Bool) → nat_lt plays 4 ≡ test → IfOk (checked (BadWord number 1) test) (λ _. plays < 4)
+      of_test true is = (Decides-ltb plays 4).0 is
+      of_test false is = tt
+
+  play_ok : IfOk (play_in (names_of plan) number plays text) (IsSaidCommand plan plays)
+  unfolding play_in
+  play_ok =
+      if_ok _ (checked (BadWord number 1) (nat_lt plays 4)) _ few_ok (λ few is_few.
+      if_ok _ (said_word (place_in (circuit_names plan.circuits)) number 2 text) _ (circuit_word plan number text 2) (λ circuit p.
+      if_ok _ (said_word some_word number 3 text) _ (file_ok number 3 text) (λ file is. if_any _ (ends_before number 4 text) _ (λ end. (p, is_few, is.0, is.1)))))
+
+  packet_one : (make : ℕ → Event) → ((packet : ℕ) → IsPacket packet → IsSaidEvent plan (make packet)) → IfOk (packet_in number text >>= (λ packet. Ok (One (make packet)))) (IsSaidCommand plan plays)
+  packet_one make said = if_ok _ (packet_in number text) _ (packet_ok plan number text) (λ packet is. said packet is)
+
+  command_ok : (word : List ℕ) → IfOk (command_of (names_of plan) number plays word text) (IsSaidCommand plan plays)
+  unfolding command_of packet_command part_command many_of
+  command_ok word =
+      of_if _ (bytes_eq word (codes "connect")) _ _ (one_ok (connect_in (names_of plan) number text) (connect_ok plan number text))
+      (of_if _ (bytes_eq word (codes "deliver")) _ _ (one_ok (deliver_in (names_of plan) number text) (deliver_ok plan number text))
+      (of_if _ (bytes_eq word (codes "lose")) _ _ (one_ok (lose_in (names_of plan) number text) (lose_ok plan number text))
+      (of_if _ (bytes_eq word (codes "restart")) _ _ (one_ok (restart_in (names_of plan) number text) (restart_ok plan number text))
+      (of_if _ (bytes_eq word (codes "tick")) _ _ tick_ok
+      (of_if _ (bytes_eq word (codes "frame")) _ _ (one_ok (frame_event_in (names_of plan) number text) (frame_event_ok plan number text))
+      (of_if _ (bytes_eq word (codes "arrive")) _ _ (packet_one Arrive (λ packet is. (tt, is)))
+      (of_if _ (bytes_eq word (codes "drop")) _ _ (packet_one Discard (λ packet is. (tt, is)))
+      (of_if _ (bytes_eq word (codes "again")) _ _ (packet_one Again (λ packet is. (tt, is)))
+      (of_if _ (bytes_eq word (codes "wire")) _ _ (one_ok (wire_switch_in (names_of plan) number text) (wire_ok plan number text))
+      (of_if _ (bytes_eq word (codes "circuit")) _ _ (one_ok (circuit_switch_in (names_of plan) number text) (switch_ok plan number text))
+      (of_if _ (bytes_eq word (codes "status")) _ _ (one_ok (status_in (names_of plan) number text) (status_ok plan number text))
+      (of_if _ (bytes_eq word (codes "priority")) _ _ (one_ok (priority_event_in (names_of plan) number text) (priority_ok plan number text))
+      (of_if _ (bytes_eq word (codes "ping")) _ _ (one_ok (ping_in (names_of plan) number text) (ping_ok plan number text))
+      (of_if _ (bytes_eq word (codes "settle")) _ _ (if_ok _ (repeats_in number text) _ (repeats_ok plan number text) (λ count is. is))
+      (of_if _ (bytes_eq word (codes "flow")) _ _ (if_ok _ (repeats_in number text) _ (repeats_ok plan number text) (λ count is. is))
+      (of_if _ (bytes_eq word (codes "play")) _ _ play_ok tt))))))))))))))))
+
+-- the commands of items
+pub commands_said : (plan : Plan) (number plays : ℕ) (items : Items) → IfOk (commands_in (names_of plan) number plays items) (AreSaidCommands plan plays)
+commands_said plan number plays no_items = tt
+commands_said plan number plays (item value rest) =
+    if_ok _ (event_in (names_of plan) number plays value) _ (if_any _ (found _ (as_str value)) _ (λ text. command_ok plan number plays text (first_word text))) (λ command is.
+    if_ok _ (commands_in (names_of plan) (number + 1) (plays_after plays command) rest) _ (commands_said plan (number + 1) (plays_after plays command) rest) (λ commands are. (is, are)))

@@ -1,0 +1,79 @@
+//! Offers as tables.
+ghost use Rattle.std.specs.{Prelude.{◌≡◌, ◌++◌, codes, unwrap_or, string_bytes, IfOk, OnOk}, Str.{IsUtf8}};
+ghost use Rattle.toml.specs.View.{table_view};
+ghost use Rattle.migration.specs.{Groups.{group_name}, Rows.{offer_table, put_group}};
+
+use crate::keys::{no_keys, put_boolean, put_number, put_text, put_told};
+use crate::names::mode_text;
+use net_base::{NoMemory, Offer};
+use std::alloc::Global;
+use std::str;
+use toml::Table;
+
+/// The name of a group: `g` and its number.
+#[tactic(auto, unfolding(crate::specs::Groups::group_name))]
+pub fn group_text(alloc: Global, group: u32) -> Result<String, NoMemory>
+    ensures { IfOk result (λ t. string_bytes t ≡ group_name group) }
+{
+    Ok(format!(in alloc; "g{group}")?)
+}
+
+// Puts the group of an end, where it has one.
+fn put_group_of(alloc: Global, table: &mut Table, group: u32) -> Result<(), NoMemory>
+    ensures { OnOk result (table_view table.new ≡ put_group group (table_view table.old)) }
+{
+    if group == 0 {
+        return Ok(());
+    }
+    let name = group_text(alloc, group)?;
+    put_text(alloc, table, "group", name.as_str())
+}
+
+// A number that is told, 0 where it is not.
+fn mtu_or_zero(number: Option<u16>) -> u32
+    ensures { result ≡ unwrap_or number 0 }
+{
+    match number {
+        Some(number) => u32::from(number),
+        None => 0,
+    }
+}
+
+// Bits that are told, 0 where they are not.
+fn bits_or_zero(bits: Option<u8>) -> u32
+    ensures { result ≡ unwrap_or bits 0 }
+{
+    match bits {
+        Some(bits) => u32::from(bits),
+        None => 0,
+    }
+}
+
+/// A number of 16 bits, where it is told.
+pub fn wide(number: Option<u16>) -> Option<u32>
+    ensures { result ≡ number }
+{
+    match number {
+        Some(number) => Some(u32::from(number)),
+        None => None,
+    }
+}
+
+/// The table of an offer.
+#[tactic(auto, unfolding(crate::specs::Rows::offer_table))]
+pub fn offer_keys(alloc: Global, offer: &Offer) -> Result<Table, NoMemory>
+    requires { IsUtf8 offer.now.description }
+    ensures { IfOk result (λ t. table_view t ≡ offer_table offer.now) }
+{
+    let description = str::from_utf8(offer.description.as_slice()).unwrap();
+    let mut table = no_keys(alloc);
+    put_text(alloc, &mut table, "description", description)?;
+    put_group_of(alloc, &mut table, offer.group)?;
+    put_boolean(alloc, &mut table, "status", offer.status)?;
+    put_number(alloc, &mut table, "vccv", bits_or_zero(offer.vccv))?;
+    put_told(alloc, &mut table, "vlan", wide(offer.vlan))?;
+    put_number(alloc, &mut table, "mtu", mtu_or_zero(offer.mtu))?;
+    put_boolean(alloc, &mut table, "control_word", offer.cword)?;
+    put_text(alloc, &mut table, "mode", mode_text(offer.tagged))?;
+    Ok(table)
+}
