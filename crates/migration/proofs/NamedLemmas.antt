@@ -3,7 +3,7 @@ use Rattle.std.proofs.Common.{◌≡◌, ◌<◌, ◌≤◌, ◌==◌, ◌+◌, 
 use Rattle.std.proofs.lemmas.Bool.{cases_Bool, eqb-true, lt-ltb, false≢true}
 use Rattle.std.proofs.lemmas.List.{append_assoc, length-map}
 use Rattle.std.proofs.lemmas.Slice.Eq.{bytes_eq-Decides}
-use Rattle.std.specs.List.{All, list_any, position_or_len}
+use Rattle.std.specs.List.{All, AllByRecursion, list_any, position_or_len}
 use Rattle.std.specs.Str.{bytes_eq}
 use Rattle.net_values.specs.Name.{IsName}
 use Rattle.net_values.proofs.NumberLemmas.{same_number}
@@ -42,8 +42,7 @@ row_named f rows i each lt = rw (row_name f rows i lt) (each i [] (rw length-map
 
 -- each is the number of a group
 abbrev pub AreNumbers : List ℕ → Type 0
-AreNumbers [] = Unit {0}
-AreNumbers (u ∷ us) = ((1 ≤ u) × (u < 2 ^ 32)) × AreNumbers us
+AreNumbers us = AllByRecursion (λ u. (1 ≤ u) × (u < 2 ^ 32)) us
 
 same_test : (a b : ℕ) → a < 2 ^ 32 → b < 2 ^ 32 → bytes_eq (group_name a) (group_name b) ≡ (a == b)
 same_test a b p q = elim (cases_Bool (a == b)) [

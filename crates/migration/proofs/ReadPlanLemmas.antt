@@ -1,20 +1,20 @@
 -- A plan that was read is one that a document can say.
 use Rattle.std.proofs.Common.{◌≤◌, ℕ, zero, suc, List, [], ◌∷◌, map, arith}
-use Rattle.std.specs.List.{All}
+use Rattle.std.specs.List.{All, AllByRecursion}
 use Rattle.net_values.specs.Name.{IsName}
 use Rattle.net_base.specs.declared.plan.Plan.{Plan}
 use Rattle.net_base.specs.declared.plan.edge_plan.EdgePlan.{EdgePlan}
 use Rattle.net_base.specs.declared.plan.wire_plan.WirePlan.{WirePlan}
 use Rattle.net_base.specs.plan.Accepted.{IsChecked}
 use Rattle.migration.specs.ReadPlan.{IsQuad, IsSaid, IsReadPlan}
-use Rattle.migration.proofs.SaidLemmas.{Each, IsSaidPlan}
+use Rattle.migration.proofs.SaidLemmas.{IsSaidPlan}
 
-each_all : {A : Type 0} (Q P : A → Type 0) → ((x : A) → Q x → P x) → (xs : List A) → Each Q xs → All P xs
+each_all : {A : Type 0} (Q P : A → Type 0) → ((x : A) → Q x → P x) → (xs : List A) → AllByRecursion Q xs → All P xs
 each_all Q P give [] each k d lt = absurd (omega (arith, lt))
 each_all Q P give (x ∷ xs) each zero d lt = give x each.0
 each_all Q P give (x ∷ xs) each (suc k) d lt = each_all Q P give xs each.1 k d (omega (arith, lt))
 
-each_name : {A : Type 0} (f : A → List ℕ) (Q : A → Type 0) → ((x : A) → Q x → IsName (f x)) → (xs : List A) → Each Q xs → All IsName (map f xs)
+each_name : {A : Type 0} (f : A → List ℕ) (Q : A → Type 0) → ((x : A) → Q x → IsName (f x)) → (xs : List A) → AllByRecursion Q xs → All IsName (map f xs)
 each_name f Q give [] each k d lt = absurd (omega (arith, lt))
 each_name f Q give (x ∷ xs) each zero d lt = give x each.0
 each_name f Q give (x ∷ xs) each (suc k) d lt = each_name f Q give xs each.1 k d (omega (arith, lt))

@@ -3,7 +3,7 @@ use Rattle.std.proofs.Common.{◌≡◌, ◌<◌, ◌≤◌, ◌+◌, ◌-◌, �
 use Rattle.std.proofs.lemmas.Bool.{and_parts, cases_Bool}
 use Rattle.std.proofs.lemmas.Bool.Decides.{Decides-ltb}
 use Rattle.std.proofs.lemmas.List.{length-map}
-use Rattle.std.specs.List.{All, position_or_len}
+use Rattle.std.specs.List.{All, AllByRecursion, position_or_len}
 use Rattle.std.specs.Str.{bytes_eq}
 use Rattle.toml.specs.Data.{Items, no_items, item, as_str}
 use Rattle.net_base.specs.declared.plan.Plan.{Plan}
@@ -85,8 +85,7 @@ pair_ok a b = of_both (digit_value a) (digit_value b) (digit_ok a) (digit_ok b)
     of_both (Some high) (Some low) p q = omega (arith, p, q)
 
 abbrev EachOctet : List ℕ → Type 0
-EachOctet [] = Unit {0}
-EachOctet (octet ∷ rest) = (octet < 256) × EachOctet rest
+EachOctet octets = AllByRecursion (λ octet. octet < 256) octets
 
 unhex_ok : (digits : List ℕ) → IfSome (unhex digits) EachOctet
 unhex_ok [] = tt

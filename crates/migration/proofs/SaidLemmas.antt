@@ -4,6 +4,7 @@ use Rattle.std.proofs.NetLemmas.Ipv4.{read_ipv4_sound}
 use Rattle.std.proofs.lemmas.Bool.{and_parts}
 use Rattle.std.proofs.lemmas.Bool.Decides.{nat_tests}
 use Rattle.std.proofs.lemmas.Str.{IsUtf8-from_is_utf8, IsUtf8-nil}
+use Rattle.std.specs.List.{AllByRecursion}
 use Rattle.std.specs.Str.{is_utf8}
 use Rattle.std.specs.Net.Reader.{read_ipv4}
 use Rattle.toml.specs.Data.{Data, Items, no_items, item, Members, as_integer, get_member}
@@ -247,14 +248,9 @@ wire_ok version row ms =
     if_ok _ (defaulted 100 (a_number 0 255) row (codes "priority") ms) _ (defaulted_ok _ (a_number 0 255) (number_ok 0 255) row (codes "priority") ms 100 (omega arith, omega arith)) (λ priority is_priority.
     if_ok _ (ends_in version row ms) _ (ends_ok version row ms) (λ ends are. record { name = is; priority = is_priority.1; near = are.0; far = are.1 })))))))
 
--- each row of a table
-abbrev pub Each : {A : Type 0} → (A → Type 0) → List A → Type 0
-Each P [] = Unit {0}
-Each P (x ∷ xs) = P x × Each P xs
-
 pub rows_ok : {A : Type 0} (P : A → Type 0) (table : Table) (read : RowPlace → Members → Result A ScenarioFault) → ((row : RowPlace) (ms : Members) → IfOk (read row ms) P)
     → (index : ℕ) (items : Items)
-    → IfOk (rows_in table read index items) (Each P)
+    → IfOk (rows_in table read index items) (AllByRecursion P)
 rows_ok P table read each index no_items = tt
 rows_ok P table read each index (item value rest) =
     if_any _ (row_members (record { table = table; index = index }) value) _ (λ ms.
@@ -287,22 +283,23 @@ offer_said mtu group row fits small said = record {
   description = said.description;
 }
 
-number_fits : (groups : List GroupRow) → Each (λ (group : GroupRow). IsFrom 1 4294967295 group.number) groups → (place : ℕ) → number_at groups place < 2 ^ 32
+number_fits : (groups : List GroupRow) → AllByRecursion (λ (group : GroupRow). IsFrom 1 4294967295 group.number) groups → (place : ℕ) → number_at groups place < 2 ^ 32
 number_fits [] each place = omega arith
 number_fits (group ∷ groups) each zero = omega (arith, each.0.1)
 number_fits (group ∷ groups) each (suc place) = number_fits groups each.1 place
 
-use_fits : (groups : List GroupRow) → Each (λ (group : GroupRow). IsFrom 1 4294967295 group.number) groups → (row : RowPlace) (use_ : GroupUse) → IsUseSaid use_
+use_fits : (groups : List GroupRow) → AllByRecursion (λ (group : GroupRow). IsFrom 1 4294967295 group.number) groups → (row : RowPlace) (use_ : GroupUse) → IsUseSaid use_
     → IfOk (group_in groups row use_) (λ group. group < 2 ^ 32)
 use_fits groups each row (Number number) said = omega (arith, said)
 use_fits groups each row (Named name) said = if_any _ (named row (codes "group") (group_names groups) name) _ (λ place. number_fits groups each place)
 
-mtu_small : (services : List ServicePlan) → Each IsServiceSaid services → (place : ℕ) → mtu_at services place ≤ 65535
+mtu_small : (services : List ServicePlan) → AllByRecursion IsServiceSaid services → (place : ℕ) → mtu_at services place ≤ 65535
 mtu_small [] each place = omega arith
 mtu_small (service ∷ services) each zero = each.0.mtu
 mtu_small (service ∷ services) each (suc place) = mtu_small services each.1 place
 
-plan_wire_ok : (edges : List (List ℕ)) (services : List ServicePlan) (groups : List GroupRow) → Each IsServiceSaid services → Each (λ (group : GroupRow). IsFrom 1 4294967295 group.number) groups
+plan_wire_ok : (edges : List (List ℕ)) (services : List ServicePlan) (groups : List GroupRow) → AllByRecursion IsServiceSaid services
+    → AllByRecursion (λ (group : GroupRow). IsFrom 1 4294967295 group.number) groups
     → (row : RowPlace) (wire : WireRow) → IsWireSaid wire → IfOk (wire_in edges services groups row wire) IsPlanWireSaid
 unfolding wire_in
 plan_wire_ok edges services groups are_services are_groups row wire said =
@@ -319,8 +316,9 @@ plan_wire_ok edges services groups are_services are_groups row wire said =
       far = offer_said (mtu_at services service) far_group wire.far (mtu_small services are_services service) is_far said.far;
     }))))
 
-plan_wires_ok : (edges : List (List ℕ)) (services : List ServicePlan) (groups : List GroupRow) → Each IsServiceSaid services → Each (λ (group : GroupRow). IsFrom 1 4294967295 group.number) groups
-    → (index : ℕ) (rows : List WireRow) → Each IsWireSaid rows → IfOk (wires_in edges services groups index rows) (Each IsPlanWireSaid)
+plan_wires_ok : (edges : List (List ℕ)) (services : List ServicePlan) (groups : List GroupRow) → AllByRecursion IsServiceSaid services
+    → AllByRecursion (λ (group : GroupRow). IsFrom 1 4294967295 group.number) groups
+    → (index : ℕ) (rows : List WireRow) → AllByRecursion IsWireSaid rows → IfOk (wires_in edges services groups index rows) (AllByRecursion IsPlanWireSaid)
 plan_wires_ok edges services groups are_services are_groups index [] each = tt
 plan_wires_ok edges services groups are_services are_groups index (row ∷ rows) each =
     if_ok _ (wire_in edges services groups (record { table = kind.Wire; index = index }) row) _
@@ -331,8 +329,8 @@ plan_circuit_ok : (edges services : List (List ℕ)) (row : RowPlace) (circuit :
 unfolding circuit_in
 plan_circuit_ok edges services row circuit is = if_any _ (named row (codes "edge") edges circuit.edge) _ (λ edge. if_any _ (named row (codes "service") services circuit.service) _ (λ service. is))
 
-plan_circuits_ok : (edges services : List (List ℕ)) (index : ℕ) (rows : List CircuitRow) → Each (λ (c : CircuitRow). IsName c.name) rows
-    → IfOk (circuit_plans edges services index rows) (Each (λ (c : CircuitPlan). IsName c.name))
+plan_circuits_ok : (edges services : List (List ℕ)) (index : ℕ) (rows : List CircuitRow) → AllByRecursion (λ (c : CircuitRow). IsName c.name) rows
+    → IfOk (circuit_plans edges services index rows) (AllByRecursion (λ (c : CircuitPlan). IsName c.name))
 plan_circuits_ok edges services index [] each = tt
 plan_circuits_ok edges services index (row ∷ rows) each =
     if_ok _ (circuit_in edges services (record { table = kind.Circuit; index = index }) row) _ (plan_circuit_ok edges services (record { table = kind.Circuit; index = index }) row each.0) (λ x p.
@@ -341,10 +339,10 @@ plan_circuits_ok edges services index (row ∷ rows) each =
 -- what holds of a plan that was read
 pub record IsSaidPlan (plan : Plan) : Type 0 where
   pub sound : plan_fault plan ≡ None
-  pub edges : Each IsEdgeSaid plan.edges
-  pub services : Each IsServiceSaid plan.services
-  pub circuits : Each (λ (c : CircuitPlan). IsName c.name) plan.circuits
-  pub wires : Each IsPlanWireSaid plan.wires
+  pub edges : AllByRecursion IsEdgeSaid plan.edges
+  pub services : AllByRecursion IsServiceSaid plan.services
+  pub circuits : AllByRecursion (λ (c : CircuitPlan). IsName c.name) plan.circuits
+  pub wires : AllByRecursion IsPlanWireSaid plan.wires
 
 pub sound_ok : (plan : Plan) → IfOk (sound plan) (λ (p : Plan). (p ≡ plan) × (plan_fault plan ≡ None))
 sound_ok plan = of_fault (plan_fault plan) refl
@@ -354,8 +352,9 @@ sound_ok plan = of_fault (plan_fault plan) refl
     of_fault (Some fault) is = tt
 
 placed_ok : (edges : List (List ℕ)) (services : List ServicePlan) (groups : List GroupRow) (circuits : List CircuitRow) (wires : List WireRow)
-    → Each IsServiceSaid services → Each (λ (group : GroupRow). IsFrom 1 4294967295 group.number) groups → Each (λ (c : CircuitRow). IsName c.name) circuits → Each IsWireSaid wires
-    → IfOk (placed_rows edges services groups circuits wires) (λ rows. Each (λ (c : CircuitPlan). IsName c.name) rows.circuits × Each IsPlanWireSaid rows.wires)
+    → AllByRecursion IsServiceSaid services → AllByRecursion (λ (group : GroupRow). IsFrom 1 4294967295 group.number) groups → AllByRecursion (λ (c : CircuitRow). IsName c.name) circuits
+    → AllByRecursion IsWireSaid wires
+    → IfOk (placed_rows edges services groups circuits wires) (λ rows. AllByRecursion (λ (c : CircuitPlan). IsName c.name) rows.circuits × AllByRecursion IsPlanWireSaid rows.wires)
 unfolding placed_rows
 placed_ok edges services groups circuits wires are_services are_groups are_circuits are_wires =
     if_ok _ (circuit_plans edges (service_names services) 1 circuits) _ (plan_circuits_ok edges (service_names services) 1 circuits are_circuits) (λ cs p.
@@ -366,15 +365,16 @@ of_plan plan (Ok p) is said = subst IsSaidPlan (sym is.0) (said is.1)
 of_plan plan (Err e) is said = tt
 
 plan_of_ok : (edges : List EdgePlan) (services : List ServicePlan) (groups : List GroupRow) (circuits : List CircuitRow) (wires : List WireRow)
-    → Each IsEdgeSaid edges → Each IsServiceSaid services → Each (λ (group : GroupRow). IsFrom 1 4294967295 group.number) groups → Each (λ (c : CircuitRow). IsName c.name) circuits
-    → Each IsWireSaid wires
+    → AllByRecursion IsEdgeSaid edges → AllByRecursion IsServiceSaid services → AllByRecursion (λ (group : GroupRow). IsFrom 1 4294967295 group.number) groups
+    → AllByRecursion (λ (c : CircuitRow). IsName c.name) circuits
+    → AllByRecursion IsWireSaid wires
     → IfOk (plan_of edges services groups circuits wires) IsSaidPlan
 unfolding plan_of
 plan_of_ok edges services groups circuits wires are_edges are_services are_groups are_circuits are_wires =
     if_ok _ (placed_rows (edge_names edges) services groups circuits wires) _ (placed_ok (edge_names edges) services groups circuits wires are_services are_groups are_circuits are_wires) (λ rows are.
     of_sound rows.circuits rows.wires are.0 are.1)
   where
-    of_sound : (cs : List CircuitPlan) (ws : List WirePlan) → Each (λ (c : CircuitPlan). IsName c.name) cs → Each IsPlanWireSaid ws
+    of_sound : (cs : List CircuitPlan) (ws : List WirePlan) → AllByRecursion (λ (c : CircuitPlan). IsName c.name) cs → AllByRecursion IsPlanWireSaid ws
         → IfOk (sound_with groups (record { edges = edges; services = services; circuits = cs; wires = ws })) IsSaidPlan
     of_sound cs ws p q =
         let plan : Plan = record { edges = edges; services = services; circuits = cs; wires = ws } in

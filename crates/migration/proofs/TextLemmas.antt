@@ -5,7 +5,7 @@ use Rattle.std.proofs.lemmas.Bool.Decides.{Decides-ltb, nat_tests}
 use Rattle.std.proofs.lemmas.Fmt.{IsAscii-decimal}
 use Rattle.std.proofs.lemmas.Str.{IsUtf8-from_ascii, IsUtf8-append, IsUtf8-nil}
 use Rattle.std.specs.Fmt.{decimal}
-use Rattle.std.specs.List.{All, list_all}
+use Rattle.std.specs.List.{All, AllByRecursion, list_all}
 use Rattle.std.specs.Str.{IsAscii, IsUtf8}
 use Rattle.hex.specs.Hex.{encode_with, lower_digits}
 use Rattle.net_values.specs.Name.{IsName, is_name_octet_of}
@@ -99,8 +99,7 @@ switch_is_text false = name_octets_are_text (codes "off") refl
 
 -- words
 abbrev AreTexts : List (List ℕ) → Type 0
-AreTexts [] = Unit {0}
-AreTexts (word ∷ words) = IsUtf8 word × AreTexts words
+AreTexts words = AllByRecursion IsUtf8 words
 
 blank_is_text : IsUtf8 (codes " ")
 blank_is_text = IsUtf8-from_ascii (codes " ") (all_ascii (λ octet. nat_lt octet 128) (λ octet is. (Decides-ltb octet 128).0 is) (codes " ") refl)

@@ -2,7 +2,7 @@
 use Rattle.std.proofs.Common.{◌≡◌, ◌<◌, ◌≤◌, ◌==◌, ◌+◌, ◌*◌, ◌++◌, ◌||◌, ◌^◌, ◌∙◌, ℕ, Bool, true, false, List, [], ◌∷◌, length, None, length-append, refl, arith, inl, inr, if◌then◌else◌}
 use Rattle.std.proofs.lemmas.Bool.{cases_Bool, or_right, or_left, or_parts}
 use Rattle.std.proofs.lemmas.Bool.Decides.{nat_tests}
-use Rattle.std.specs.List.{list_any}
+use Rattle.std.specs.List.{AllByRecursion, list_any}
 use Rattle.net_base.specs.declared.plan.wire_plan.WirePlan.{WirePlan}
 use Rattle.net_base.specs.plan.Faults.{first_clash}
 use Rattle.migration.specs.Groups.{used_also, used_after, used_groups}
@@ -14,13 +14,11 @@ is_used used group = group == 0 || list_any (λ old. old == group) used
 
 -- both ends of each wire
 abbrev pub AreUsed : List ℕ → List WirePlan → Type 0
-AreUsed used [] = Unit {0}
-AreUsed used (wire ∷ wires) = ((is_used used wire.near.group ≡ true) × (is_used used wire.far.group ≡ true)) × AreUsed used wires
+AreUsed used wires = AllByRecursion (λ (wire : WirePlan). (is_used used wire.near.group ≡ true) × (is_used used wire.far.group ≡ true)) wires
 
 -- the groups of both ends are numbers of 32 bits
 abbrev pub AreSmall : List WirePlan → Type 0
-AreSmall [] = Unit {0}
-AreSmall (wire ∷ wires) = ((wire.near.group < 2 ^ 32) × (wire.far.group < 2 ^ 32)) × AreSmall wires
+AreSmall wires = AllByRecursion (λ (wire : WirePlan). (wire.near.group < 2 ^ 32) × (wire.far.group < 2 ^ 32)) wires
 
 -- numbers of groups, each once, and so many at most
 pub record AreGroups (most : ℕ) (used : List ℕ) : Type 0 where

@@ -1,5 +1,6 @@
 -- Circuits and wires are read from their tables.
 use Rattle.std.proofs.Common.{◌≡◌, ◌≤◌, ℕ, true, List, [], ◌∷◌, map, Some, None, Ok, codes, refl, arith}
+use Rattle.std.specs.List.{AllByRecursion}
 use Rattle.toml.specs.Data.{Items, no_members, string, array, table, get_member}
 use Rattle.toml.specs.View.{items_of}
 use Rattle.net_values.specs.Name.{IsName}
@@ -76,8 +77,7 @@ are_strings plan (edge ∷ path) = are_strings plan path
 
 -- each edge of the path has a name
 abbrev pub AreNamed : Plan → List EdgeId → Type 0
-AreNamed plan [] = Unit {0}
-AreNamed plan (edge ∷ path) = IsName (edge_name plan edge) × AreNamed plan path
+AreNamed plan path = AllByRecursion (λ edge. IsName (edge_name plan edge)) path
 
 names_read : (plan : Plan) (place : Place) (path : List EdgeId) → AreNamed plan path → names_in place (path_items plan path) ≡ Ok (path_names plan path)
 names_read plan place [] names = refl

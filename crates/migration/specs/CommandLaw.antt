@@ -1,5 +1,6 @@
 -- The events of a migrated document are read as the commands.
-use Rattle.std.specs.Prelude.{◌≡◌, ◌<◌, ◌≤◌, ℕ, Bool, false, List, [], ◌∷◌, length, Ok}
+use Rattle.std.specs.Prelude.{◌≡◌, ◌<◌, ◌≤◌, ℕ, false, List, [], ◌∷◌, length, Ok}
+use Rattle.std.specs.List.{AllByRecursion}
 use Rattle.toml.specs.View.{items_of}
 use Rattle.net_base.specs.declared.plan.Plan.{Plan}
 use Rattle.net_base.specs.plan.Planned.{IsEventOf}
@@ -13,8 +14,7 @@ use Rattle.migration.specs.Commands.{event_items}
 
 -- no blank is in the word
 abbrev pub HasNoBlank : List ℕ → Type 0
-HasNoBlank [] = Unit {0}
-HasNoBlank (octet ∷ rest) = (is_space octet ≡ false) × HasNoBlank rest
+HasNoBlank octets = AllByRecursion (λ octet. is_space octet ≡ false) octets
 
 -- a command that a document can say, after so many commands `play`
 abbrev pub IsSaidCommand : Plan → ℕ → Command → Type 0

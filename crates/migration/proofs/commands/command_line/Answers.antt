@@ -1,4 +1,4 @@
-use Rattle.std.proofs.Common.{◌≡◌, [], ◌∷◌, List, ℕ, codes, subst, sym, rules}
+use Rattle.std.proofs.Common.{[], ◌∷◌, List, ℕ, codes, subst, sym}
 use Rattle.std.specs.Str.{IsUtf8}
 use Rattle.event_laws.specs.Law.{joined_words}
 use Rattle.migration.specs.Sayable.{IsSayable}
