@@ -1,5 +1,5 @@
 //! What an edge keeps of its neighbours.
-ghost use Rattle.std.specs.Prelude.{◌≡◌, ◌≤◌, ◌<◌, ◌==◌, ◌||◌, ℕ, IfOk, IfSome, None, false, if◌then◌else◌, length, map, nat_lt, not, option_copied, option_map, replicate, slice_index_or, slice_set, true};
+ghost use Rattle.std.specs.Prelude.{◌≡◌, ◌≤◌, ◌<◌, ◌==◌, ◌||◌, ℕ, IfOk, IfSome, None, false, if◌then◌else◌, length, map, min, nat_lt, not, option_copied, option_map, replicate, slice_index_or, slice_set, true};
 ghost use Rattle.std.specs.List.{list_all};
 ghost use Rattle.pw_ends.specs.Marks.{is_marked};
 ghost use Rattle.edge_model.specs.{Hear.{was_up}, State.{is_there}};
@@ -47,7 +47,7 @@ impl Sessions {
             kept: none_kept(alloc, count)?,
             standing: PeerMarks::new(),
             passed: 0,
-            spare: u64::MAX,
+            spare: 0,
         })
     }
 
@@ -149,7 +149,7 @@ impl Sessions {
     {
         pass_all(&mut self.kept, self.passed);
         self.passed = 0;
-        self.spare = self.spare.min(quiet_for(&kept));
+        self.spare = with_one(self.spare, &kept);
         self.standing = with_kept(self.standing, peer, &kept);
         self.kept[peer.0 as usize] = kept;
     }
@@ -248,6 +248,16 @@ fn quiet_for(kept: &Option<Peering>) -> u64
         Some(peering) => peering.quiet(),
         None => u64::MAX,
     }
+}
+
+// How many ticks of so many may pass, with this session. Where none may it is not asked.
+fn with_one(spare: u64, kept: &Option<Peering>) -> u64
+    ensures { result ≡ min spare (quiet_for kept.now) }
+{
+    if spare == 0 {
+        return 0;
+    }
+    spare.min(quiet_for(kept))
 }
 
 // How many ticks may pass before any session has anything to do.

@@ -39,6 +39,7 @@ impl Edge {
     }
 
     // Takes out what is kept of a neighbour.
+    #[inline(always)]
     pub(crate) fn take_peering(&mut self, peer: EdgeId) -> Option<Peering>
         requires working { self.old.stopped ≡ true }
         ensures keeps { Keeps self.old self.new }
@@ -54,6 +55,7 @@ impl Edge {
     }
 
     // Keeps this of a neighbour, or nothing any more.
+    #[inline(always)]
     pub(crate) fn put_peering(&mut self, peer: EdgeId, kept: Option<Peering>)
         requires working { self.old.stopped ≡ true }
         requires within { peer.0 < length self.old.plan.edges }
