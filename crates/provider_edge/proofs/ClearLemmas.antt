@@ -16,6 +16,7 @@ use Rattle.ldp_grammar.specs.declared.message.Message.{Message}
 use Rattle.ldp_grammar.specs.declared.message.Message.TheVariants.{AddressWithdraw}
 use Rattle.pw_messages.specs.LinkAnswers.{Answers}
 use Rattle.hvpls_spokes.specs.declared.edge_role.Role.{Role}
+use Rattle.hvpls_spokes.specs.declared.edge_role.Role.TheVariants as roles
 use Rattle.hvpls_spokes.specs.declared.port.Port.{Port}
 use Rattle.hvpls_spokes.specs.declared.port.Port.TheVariants as port
 use Rattle.hvpls_spokes.specs.Port.{is_wire_port, ports_of, is_wire}
@@ -37,6 +38,7 @@ use Rattle.edge_model.specs.Withdraw.{tells_pieces}
 use Rattle.edge_model.specs.Work.{Work, changes}
 use Rattle.peer_dialogue.specs.Peering.{at_edge}
 use Rattle.edge_forwarding.proofs.OpenLemmas.{same_tests}
+use Rattle.provider_edge.proofs.CopyLemmas.{copies_none}
 use Rattle.provider_edge.proofs.MendLemmas.{me_at}
 use Rattle.provider_edge.proofs.RowLemmas.{changed_edge}
 use Rattle.provider_edge.specs.Lists.{EdgeLists, Keeps, seen}
@@ -152,6 +154,15 @@ passed_to c told addresses service from role found other ports passed calls out 
     (same_tests passed (is_passed_to role ports from) passes ∙ ap (λ (l : List Port). is_passed_to role l from) are)
     ∙ (ap (λ (m : EdgeId). copies (is_passed_to role (ports_of c.plan service m) from) (tells_at c.plan told addresses) 0 (ports_of c.plan service m) work) (sym (me_at c calls out))
     ∙ ap (λ (r : Option Role). passes_on c.plan told addresses service from r work) (sym (sym is ∙ some))))
+
+-- a spoke edge passes nothing on
+pub passed_to_none : (c : EdgeLists) (told : Answers) (addresses : List Mac) (service : ServiceId) (from : ℕ) (role : Role) (other : Option Role) (calls : List LinkCall) (out : List Effect)
+    → other ≡ Some role → role ≡ roles.SpokeEdge → at_edge (seen c) calls out ≡ passes_on c.plan told addresses service from other (at_edge (seen c) calls out)
+passed_to_none c told addresses service from role other calls out found is =
+    let work : Work = at_edge (seen c) calls out in
+    let ports : List Port = ports_of c.plan service work.edge.me in
+    sym (ap (λ (r : Option Role). passes_on c.plan told addresses service from r work) (found ∙ ap Some is)
+    ∙ copies_none (is_passed_to roles.SpokeEdge ports from) (tells_at c.plan told addresses) 0 ports work (λ q. refl))
 
 -- ---- port by port
 

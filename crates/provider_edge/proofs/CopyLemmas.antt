@@ -1,5 +1,5 @@
 -- The copies of a frame, one by one.
-use Rattle.std.proofs.Common.{◌≡◌, ◌<◌, ◌≤◌, ◌+◌, ◌∙◌, ℕ, zero, suc, Bool, List, [], ◌∷◌, cond, length, drop, slice_get, refl, ap, sym, arith}
+use Rattle.std.proofs.Common.{◌≡◌, ◌<◌, ◌≤◌, ◌+◌, ◌∙◌, ℕ, zero, suc, Bool, false, List, [], ◌∷◌, cond, length, drop, slice_get, refl, ap, sym, arith}
 use Rattle.hvpls_spokes.specs.declared.port.Port.{Port}
 use Rattle.edge_model.specs.Frame.{copies}
 use Rattle.edge_model.specs.Work.{Work}
@@ -23,6 +23,12 @@ copies_end targets copy k zero [] work past = refl
 copies_end targets copy k (suc p) [] work past = refl
 copies_end targets copy k zero (x ∷ ports) work past = absurd (omega arith)
 copies_end targets copy k (suc p) (x ∷ ports) work past = copies_end targets copy k p ports work (omega arith)
+
+-- where no port is meant there is no copy
+pub copies_none : (targets : ℕ → Bool) (copy : Port → Work → Work) (p : ℕ) (ports : List Port) (work : Work) → ((q : ℕ) → targets q ≡ false) → copies targets copy p ports work ≡ work
+copies_none targets copy p [] work none = refl
+copies_none targets copy p (x ∷ ports) work none =
+    ap (λ (b : Bool). copies targets copy (p + 1) ports (cond b (copy x work) work)) (none p) ∙ copies_none targets copy (p + 1) ports work none
 
 -- one copy more
 pub copied_next : (targets : ℕ → Bool) (copy : Port → Work → Work) (p : ℕ) (ports : List Port) (work now whole : Work) → p < length ports

@@ -1,6 +1,7 @@
 //! A MAC withdraw is heard: the bridge of the wire's service forgets, and the edge passes it on (RFC 4762 section 6.2).
 ghost use Rattle.std.specs.Prelude.{◌≡◌, ◌<◌, Some, None, true, length, position, slice_get, OnOk};
 ghost use Rattle.hvpls_spokes.specs.{Port.{is_wire_port, ports_of}, Role.{role_of}};
+ghost use Rattle.hvpls_spokes.specs.declared.edge_role.Role.TheVariants as roles;
 ghost use Rattle.mac_withdraw.specs.Passing.{is_wire_at};
 ghost use Rattle.pw_ends.specs.Ends.{place_of};
 ghost use Rattle.edge_model.specs.{Clear.{clears_by, hears_mac_withdraw, passes_on, tells_at, tells_by, withdrawing_at}, Ends.{wire_end}};
@@ -86,7 +87,8 @@ impl Edge {
         self.forwarding.withdraw(service, from, addresses);
     }
 
-    // What came by a port goes on by each port to which the edge passes it, in port order.
+    // What came by a port goes on by each port to which the edge passes it, in port order. A spoke edge passes nothing on, so that it looks at
+    // no port.
     fn pass_on<L: Link>(
         &mut self,
         service: ServiceId,
@@ -101,6 +103,9 @@ impl Edge {
         ensures step { OnOk result (WorksBy L.calls self.old work.old self.new work.new (λ told. passes_on self.old.plan told addresses.now service from (role_of self.old.plan service self.old.me))) }
     {
         let role = self.role_at(service, from);
+        if is_spoke_edge(role) {
+            return Ok(());
+        }
         let Some(ports) = self.ports(service) else {
             return Ok(());
         };
@@ -173,5 +178,15 @@ impl Edge {
             Some(slot) => self.tell_pieces(slot, addresses, work),
             None => Ok(()),
         }
+    }
+}
+
+// Whether it is a spoke edge's role.
+fn is_spoke_edge(role: Role) -> bool
+    ensures { result ≡ true → role ≡ roles.SpokeEdge }
+{
+    match role {
+        Role::SpokeEdge => true,
+        Role::Core => false,
     }
 }

@@ -7,11 +7,17 @@ use Rattle.edge_model.specs.Clear.{tells_at}
 use Rattle.peer_dialogue.proofs.SpeakerLemmas.{agrees_before}
 use Rattle.provider_edge.proofs.AtWorkLemmas.{works_both}
 use Rattle.provider_edge.proofs.BridgeLemmas.{copied_else, copied_if}
-use Rattle.provider_edge.proofs.ClearLemmas.{passed_to, where_kept}
+use Rattle.provider_edge.proofs.ClearLemmas.{passed_to, passed_to_none, where_kept}
 use Rattle.provider_edge.proofs.CopyLemmas.{copied_next, copies_end}
 use Rattle.provider_edge.specs.AtWork.{at_work}
 use Rattle.provider_edge.proofs.edge.Edge.pass_on.Goals.{then-contains+in_ok-tell_at, else-contains}
 use Rattle.provider_edge.proofs.edge.Edge.pass_on.Goals as goal
+
+pub returns-then-is_spoke_edge-clause-step : goal.returns-then-is_spoke_edge-clause-step
+returns-then-is_spoke_edge-clause-step g c = λ told agrees.
+    passed_to_none c.args.self.now told c.args.addresses.now c.args.service c.args.from c.role_at-role.result
+    (role_of c.args.self.now.plan c.args.service c.args.self.now.me) (g.L.Link.calls c.args.work.now.link.now) c.args.work.now.effects.now.list
+    c.role_at-role.ensures (c.is_spoke_edge.ensures c.if-is_spoke_edge.true)
 
 pub returns-clause-step : goal.returns-clause-step
 returns-clause-step g c = λ told agrees.
