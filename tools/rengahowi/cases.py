@@ -15,6 +15,7 @@ from .failures import Case
 from .frames import follow
 from .probing import Probes
 from .report import read_report
+from .settle_bound import bound_at_end
 from .splicing import Spliced
 from .stale import Tables
 from .timers import timers_behind
@@ -52,6 +53,7 @@ class Base:
             report = read_report(path.with_suffix(".txt"), plan)
             run = follow(plan, report)
             self.network, self.joined, self.report = run.network, run.joined, report
+            self.probes.set_up, self.probes.bits = bound_at_end(plan, report), dict(run.network.switches.bits)
             self.packets = packets_in(octets)
             self.calm = [name for name in plan.services if run.network.is_calm(name)]
             before = self.replay(path, self.probes.before(self.events))
@@ -83,7 +85,7 @@ class Base:
     def set_up_text(self) -> str:
         """A scenario that comes to what all cases begin with but for frames: of a script by the events that its lines came to."""
         made = [line[2:] for line in self.report.lines if line.startswith("> ")] if self.script is not None else None
-        return self.spliced.with_events([*self.events, *self.probes.rest()] if made is None else made)
+        return self.spliced.with_events([*self.events, *self.probes.rest(self.probes.set_up)] if made is None else made)
 
     def script_of(self, events: list[str]) -> str:
         """The text of the script with these events behind its own lines."""

@@ -6,7 +6,7 @@ from __future__ import annotations
 
 from .case_reading import Reading
 from .command import Fault
-from .probing import ALL
+from .event_kinds import ALL
 from .scripts import HEAR
 from .stale import stale
 
@@ -51,7 +51,7 @@ class Course:
         if not self.is_begun:
             return events
         self.next = self.ticks()
-        return [*events, *self.done, *self.next, *(self.base.probes.tail(self.mending, self.rounds, self.silence.edges) if self.is_last else [])]
+        return [*events, *self.done, *self.next, *(self.base.probes.tail(None, self.mending, self.rounds, self.silence.edges) if self.is_last else [])]
 
     def round(self) -> list[str]:
         """One delivery on each way that is not silent."""

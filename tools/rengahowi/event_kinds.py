@@ -10,10 +10,12 @@ if TYPE_CHECKING:
     Shape = tuple[Union[str, tuple[int, int]], ...]
 
 LARGEST = 2**64 - 1
+# So many octets one `deliver` has at most, and so many deliveries one `settle`.
+ALL, MOST = 65535, 10_000
 # Each event's words behind its first one in a scenario, where those of `tick` may be left out.
 SHAPES: dict[str, Shape] = {
     "connect": ("edge", "edge"),
-    "deliver": ("edge", "edge", (1, 65535)),
+    "deliver": ("edge", "edge", (1, ALL)),
     "lose": ("edge", "edge"),
     "restart": ("edge",),
     "tick": ((1, 10000),),
@@ -26,7 +28,7 @@ SHAPES: dict[str, Shape] = {
     "status": ("edge", "wire", (0, 31)),
     "priority": ("edge", "wire", (0, 255)),
     "ping": ("edge", "wire"),
-    "settle": ((1, 10000),),
+    "settle": ((1, MOST),),
     "flow": ((1, 10000),),
     "play": ("circuit", "file"),
 }

@@ -8,8 +8,9 @@ from collections import Counter
 
 from .called import replayed
 from .command import Fault
+from .event_kinds import ALL
 from .plan_rows import rows_of_plan
-from .probing import ALL, BROADCAST, Frame
+from .probing import BROADCAST, Frame
 from .shortening import Shortening, events_in, shown
 from .writing import scenario
 
@@ -44,9 +45,11 @@ class Orders:
         """The events of one order, behind those of the set-up."""
         first = self.base.packets + 1
         events = []
+        before: tuple[str, ...] = ()
         for stage, switches in (("failed", self.case.failure), ("mended", self.case.mending)):
             events += self.stage(chance, list(switches), self.ways[stage], first)
-            events += self.base.probes.rest()
+            events += self.base.probes.rest_behind(switches, before)
+            before = switches
             first += FRAMES * self.packets
         return events
 
@@ -136,7 +139,7 @@ def try_orders(base: Base, case: Case, folder: pathlib.Path, ways: Any, wanted: 
     first: dict[str, tuple[int, list[str]]] = {}
     for number in range(count):
         chance = random.Random(f"{seed} {case.name} {number}")
-        events = [*base.events, *base.probes.rest(), *orders.events(chance)]
+        events = [*base.events, *base.probes.rest(base.probes.set_up), *orders.events(chance)]
         for kind in faults_of(base.sites, base.replay(path, events).decode().splitlines()):
             counts[kind] += 1
             first.setdefault(kind, (number, events))

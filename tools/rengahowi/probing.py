@@ -5,11 +5,13 @@ from __future__ import annotations
 from typing import NamedTuple
 
 from .command import Fault
+from .event_kinds import ALL
 from .keys import MOST_ROWS
+from .settle_bound import Bound, settles
 
 TYPE_CHECKING = False
 if TYPE_CHECKING:
-    from collections.abc import Collection, Iterable, Iterator
+    from collections.abc import Collection, Iterable, Iterator, Sequence
     from typing import Any
 
     from .failures import Case
@@ -19,8 +21,7 @@ if TYPE_CHECKING:
 PHASES = ["before", "at once", "failed", "mended"]
 TAG, TYPE = "8100%04x", "88b5"
 BROADCAST = "ff" * 6
-ALL = 65535
-# So many deliveries of LDP, or arrivals of packets, at most, behind which none is left.
+# So many deliveries of LDP at most, or arrivals of packets, where it is not known how many are needed.
 REST = 10000
 
 
@@ -36,6 +37,8 @@ class Probes:
 
     def __init__(self, plan: Plan) -> None:
         self.plan = plan
+        # How many deliveries bring the network to rest behind its set-up, and the failure bits that are set then.
+        self.bound, self.set_up, self.bits = Bound(plan), REST, dict[tuple[str, str], int]()
         self.station = {name: f"02000000{place:04x}" for place, name in enumerate(plan.circuits)}
         self.ways = [way for a, b in plan.pairs() for way in ((a, b), (b, a))]
         self.round = [f"deliver {a} {b} {ALL}" for a, b in self.ways]
@@ -75,23 +78,26 @@ class Probes:
 
     def before(self, events: list[str]) -> list[Any]:
         """The set-up, delivered to its end, and the first phase."""
-        return [*events, *self.rest(), *self.phase("before")]
+        return [*events, *self.rest(self.set_up), *self.phase("before")]
 
-    def rest(self) -> list[Any]:
-        """Everything is delivered, and arrives."""
-        return ([f"settle {REST}"] if self.ways else []) + [f"flow {REST}"]
+    def rest(self, bound: int = REST) -> list[str]:
+        """Everything is delivered, where that takes so many deliveries at most, and arrives."""
+        return (settles(bound) if self.ways else []) + [f"flow {REST}"]
 
-    def rounds(self, count: int) -> Any:
-        """So many rounds: in each one delivery from each edge to each neighbour, of all that is on its way; and what is left then."""
-        return self.round * count + self.rest()
+    def rest_behind(self, events: Sequence[str], before: Iterable[str] = ()) -> list[str]:
+        """The same behind these events in a network at rest, in which those before them had failed."""
+        told = {(words[1], words[2]): int(words[3]) for words in (event.split(" ") for event in before) if words[0] == "status"}
+        return self.rest(self.bound.behind(events, self.bits | told))
 
     def after(self, case: Case, rounds: int) -> list[Any]:
         """A case's own events, behind those of `before`."""
-        return [*case.failure, *self.phase("at once"), *self.round * rounds, *self.tail(case.mending, rounds)]
+        return [*case.failure, *self.phase("at once"), *self.round * rounds, *self.tail(case.failure, case.mending, rounds)]
 
-    def tail(self, mending: Iterable[str], rounds: int, dead: Collection[str] = ()) -> list[str]:
-        """What comes of a case once its failure was delivered: the phase in which it stands, its mending, and the last phase."""
-        return [*self.rest(), *self.phase("failed", dead), *mending, *self.rounds(rounds), *self.phase("mended")]
+    def tail(self, failure: Sequence[str] | None, mending: Sequence[str], rounds: int, dead: Collection[str] = ()) -> list[str]:
+        """What comes of a case once its failure was delivered: the phase in which it stands, its mending, rounds, in each of which one delivery
+        is made from each edge to each neighbour, of all that is on its way, and the last phase. A failure by silence has no events."""
+        failed, mended = (self.rest(), self.rest()) if failure is None else (self.rest_behind(failure), self.rest_behind(mending, failure))
+        return [*failed, *self.phase("failed", dead), *mending, *self.round * rounds, *mended, *self.phase("mended")]
 
     def most_rounds(self, events: int) -> int:
         """How many rounds a scenario has room for, behind a set-up of so many events."""

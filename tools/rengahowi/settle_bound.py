@@ -6,12 +6,12 @@ from __future__ import annotations
 
 from typing import NamedTuple
 
+from .event_kinds import ALL, MOST
 from .network import OPERATIONAL, Network
-from .probing import ALL
 
 TYPE_CHECKING = False
 if TYPE_CHECKING:
-    from collections.abc import Callable, Iterator
+    from collections.abc import Callable, Iterable, Iterator
 
     from .plan import Plan, Wire
     from .report import Report
@@ -30,6 +30,10 @@ TYPE, FIRST_TLV, FEC, PW_ID = 20, 36, "0100", slice(16, 24)
 FOLLOWED = {"connect", "deliver", "lose", "restart", "status", "wire", "priority", "circuit"}
 # How many times each state that a session leaves is answered still (RFC 5036 section 2.5.4).
 ANSWERS = {"Initialized": 6, "OpenSent": 4, "OpenRec": 2}
+# The events behind which it is known what edges may put, besides deliveries; the last ones put nothing.
+COUNTED = {"connect", "lose", "restart", "wire", "status", "priority", "circuit", "frame", "arrive", "flow"}
+# So many lines of `settle` a tool writes at most, to keep a scenario readable.
+LINES = 100
 
 
 def saying_of(octets: str) -> tuple[str, int] | None:
@@ -50,13 +54,18 @@ def beside(wire: Wire, edge: str) -> tuple[str, ...]:
     return wire.path[max(0, place - 1) : place] + wire.path[place + 1 : place + 2]
 
 
+def is_spoke(wire: Wire, edge: str) -> bool:
+    """Whether a wire is a spoke that starts at this edge."""
+    return wire.kind == "spoke" and edge == wire.path[0]
+
+
 class Worths:
     """What each message is worth, by the plan and the failure bits that are set."""
 
     def __init__(self, plan: Plan, bits: Callable[[str, str], int]) -> None:
         self.plan, self.bits = plan, bits
         self.known: dict[Said, int] = {}
-        self.told: dict[tuple[str, int], int] = {}
+        self.told: dict[tuple[str, str, int], int] = {}
         self.passed: dict[tuple[str, str, int], int] = {}
         # The ends of each edge: a wire, and the neighbour beside which it is.
         self.ends: dict[str, list[tuple[Wire, str]]] = {edge: [] for edge in plan.edges}
@@ -81,10 +90,9 @@ class Worths:
             return 16 * self.hangs(wire, not is_onward) + 3 * back + 1
         if saying in (BINDS, WITHDRAWS):
             return 16 * self.hangs(wire, is_onward) + 3 * spoken + 2 * (saying == BINDS)
-        is_spoke = wire.kind == "spoke"
         if saying == STATES:
-            return (48 if is_spoke and is_onward else 32) + spoken
-        return (80 if not is_spoke else 64 if is_onward else 96) + spoken
+            return (48 if wire.kind == "spoke" and is_onward else 32) + spoken
+        return (80 if wire.kind != "spoke" else 64 if is_onward else 96) + spoken
 
     def worth(self, saying: str, wire: Wire, a: str, b: str) -> int:
         """What a message is worth that one edge says to its neighbour about a wire."""
@@ -100,15 +108,20 @@ class Worths:
     def follows(self, said: Said) -> Iterator[int]:
         """What all that may come of a message is worth."""
         saying, wire, a, me = said
-        least = self.level(said)
-        if saying == CLEARS and me not in wire.ends():  # at a switching point it goes on
-            yield from (self.above(CLEARS, wire, me, peer, least) for peer in beside(wire, me) if peer != a)
+        least, is_end = self.level(said), me in wire.ends()
+        beyond = [peer for peer in beside(wire, me) if peer != a]
+        if saying == CLEARS and not is_end:  # at a switching point it goes on
+            yield from (self.above(CLEARS, wire, me, peer, least) for peer in beyond)
         elif saying == CLEARS:
             yield self.cleared(wire.service, me, least)
+        elif saying == RELEASES:  # the end may map anew
+            yield self.above(BINDS, wire, me, a, least)
+            yield self.chosen(wire, me, least)
         else:
             yield self.worth(RELEASES, wire, me, a) if saying == WITHDRAWS else 0
-            yield from (self.relabelled(wire, me, peer, least) for peer in beside(wire, me))
-            yield self.restated(me, least)
+            yield from (self.relabelled(wire, me, peer, least) for peer in ([a] if is_end else beyond))
+            yield from (self.above(STATES, wire, me, peer, least) for peer in beyond)
+            yield self.chosen(wire, me, least)
 
     def cleared(self, service: str, me: str, least: int) -> int:
         """What withdrawals of addresses are worth by all wires of a service that end at an edge."""
@@ -122,22 +135,35 @@ class Worths:
         """What a mapping or a withdrawal at one end is worth."""
         return max(self.above(saying, wire, me, peer, least) for saying in (WITHDRAWS, BINDS))
 
-    def restated(self, me: str, least: int) -> int:
-        """What all statuses and withdrawals of addresses are worth that an edge may tell by itself."""
-        if (me, least) not in self.told:
-            spokes = [(wire, peer) for wire, peer in self.ends[me] if wire.kind == "spoke" and me == wire.path[0]]
-            states = sum(self.above(STATES, wire, me, peer, least) for wire, peer in self.ends[me])
-            self.told[me, least] = states + sum(self.above(CLEARS, wire, me, peer, least) for wire, peer in spokes)
-        return self.told[me, least]
+    def chosen(self, wire: Wire, me: str, least: int) -> int:
+        """What is worth that an edge may choose another spoke, where the wire is one: a status and a withdrawal of addresses on each."""
+        return self.moved(me, wire.service, least) if is_spoke(wire, me) else 0
+
+    def moved(self, me: str, service: str, least: int) -> int:
+        """The same, on all spokes of a service that start at an edge."""
+        key = me, service, least
+        if key not in self.told:
+            rows = [(wire, peer) for wire, peer in self.ends[me] if is_spoke(wire, me) and wire.service == service]
+            self.told[key] = sum(self.above(saying, wire, me, peer, least) for wire, peer in rows for saying in (STATES, CLEARS))
+        return self.told[key]
+
+    def moves(self, me: str) -> int:
+        """The same, of all services."""
+        return sum(self.moved(me, service, 0) for service in {wire.service for wire, _ in self.ends[me] if is_spoke(wire, me)})
+
+    def mending(self, me: str) -> int:
+        """What all is worth that an edge may say in one mending: at each end a mapping or a withdrawal, and a status, and addresses on spokes."""
+        clears = sum(self.worth(CLEARS, wire, me, peer) for wire, peer in self.ends[me] if is_spoke(wire, me))
+        return clears + sum(self.relabelled(wire, me, peer, 0) + self.worth(STATES, wire, me, peer) for wire, peer in self.ends[me])
 
     def rise(self, me: str, peer: str) -> int:
         """What all is worth that an edge may say as its session with a neighbour comes up."""
-        return self.restated(me, 0) + sum(self.worth(BINDS, wire, me, other) for wire, other in self.ends[me] if other == peer)
+        return self.moves(me) + sum(self.worth(BINDS, wire, me, other) for wire, other in self.ends[me] if other == peer)
 
     def fall(self, me: str, peer: str) -> int:
         """What the end of a session is worth of which the neighbour's end is gone: the end itself, and what is said then on the other side."""
         rows = [(wire, other) for wire, other in self.ends[me] if other != peer and peer in beside(wire, me)]
-        return 1 + self.restated(me, 0) + sum(self.relabelled(wire, me, other, 0) for wire, other in rows)
+        return 1 + self.moves(me) + sum(self.relabelled(wire, me, other, 0) + self.worth(STATES, wire, me, other) for wire, other in rows)
 
 
 class Bound:
@@ -178,6 +204,42 @@ class Bound:
         """So many at most once all neighbours are connected, of which none has said anything yet but the first Initialization."""
         worths = self.worths_of({})
         return sum(ANSWERS["Initialized"] + ANSWERS["OpenSent"] + worths.rise(a, b) + worths.rise(b, a) + 1 for a, b in self.plan.pairs())
+
+
+    def behind(self, events: Iterable[str], bits: dict[tuple[str, str], int]) -> int:
+        """So many at most behind these events, where nothing was on its way before and these failure bits were set: each event makes its edges
+        put no more than one mending does, and ends or begins sessions. As many as one `settle` makes where an event is not COUNTED."""
+        parts = [event.split(" ") for event in events]
+        if not COUNTED.issuperset(words[0] for words in parts):
+            return MOST
+        worths = self.worths_of(bits | {(words[1], words[2]): int(words[3]) for words in parts if words[0] == "status"})
+        return sum(self.cost(worths, *words) for words in parts)
+
+    def cost(self, worths: Worths, kind: str, *words: str) -> int:
+        """What comes of one event."""
+        if kind == "connect":
+            return ANSWERS["Initialized"] + ANSWERS["OpenSent"] + worths.rise(words[0], words[1]) + worths.rise(words[1], words[0]) + 1
+        if kind == "lose":
+            return worths.fall(words[0], words[1]) + worths.fall(words[1], words[0])
+        if kind == "restart":
+            return sum(worths.fall(b, a) for pair in self.plan.pairs() for a, b in (pair, pair[::-1]) if a == words[0])
+        return worths.mending(words[0]) if kind in ("wire", "status", "priority") else 0
+
+
+def settles(bound: int) -> list[str]:
+    """The events that deliver until nothing is on its way, where that takes so many deliveries at most: as many lines as these ask for, but no
+    more than a scenario keeps readable with."""
+    return [f"settle {MOST}"] * max(1, min(LINES, -(-bound // MOST)))
+
+
+def bound_at_end(plan: Plan, report: Report) -> int:
+    """How many at most before the deliveries with which a report ends."""
+    stretches, bound, delivered = Stretches(plan, report), 0, False
+    for _, delivers in stretches.followed():
+        if delivers and not delivered:
+            bound = stretches.bound.of(stretches.network)
+        delivered = delivers
+    return bound
 
 
 class Rest(NamedTuple):

@@ -5,7 +5,10 @@ from __future__ import annotations
 import re
 
 from .command import Fault
+from .event_kinds import MOST
 from .keys import MOST_ROWS, NEWEST
+from .plan import Plan
+from .settle_bound import LINES, Bound, settles
 
 TYPE_CHECKING = False
 if TYPE_CHECKING:
@@ -46,13 +49,25 @@ def scenario(rows: dict[str, list[dict[str, Any]]], events: list[str], comment: 
     return text
 
 
-def connected(rows: dict[str, list[dict[str, Any]]]) -> list[Any]:
-    """The events that connect each two neighbours, and deliver until nothing of LDP is left."""
+def connected(rows: dict[str, list[dict[str, Any]]]) -> list[str]:
+    """The events that connect each two neighbours, and deliver until nothing of LDP is left: as often as is proved to be enough."""
     pairs: dict[frozenset[str], tuple[str, str]] = {}
     for wire in rows["wire"]:
         for pair in zip(wire["path"], wire["path"][1:]):
             pairs.setdefault(frozenset(pair), pair)
-    return [f"connect {a} {b}" for a, b in pairs.values()] + ["settle 10000"] * bool(pairs)
+    return [f"connect {a} {b}" for a, b in pairs.values()] + (settles(bound_of(rows)) if pairs else [])
+
+
+def bound_of(rows: dict[str, list[dict[str, Any]]]) -> int:
+    """By how many deliveries a plan comes to rest at most, once all neighbours are connected."""
+    return Bound(Plan({"version": NEWEST, **rows})).connected()
+
+
+def rest_words(rows: dict[str, list[dict[str, Any]]]) -> str:
+    """What a scenario says of that."""
+    bound, made = bound_of(rows), MOST * LINES
+    few = "" if bound <= made else f"; no more than {made} are made, which are not proved to be enough"
+    return f"Once all are connected signalling comes to rest within {bound} deliveries, by proof{few}."
 
 
 def rows_of(count: int, circuits: int, services: int = 1, tags: bool = False) -> dict[str, list[dict[str, Any]]]:
