@@ -17,7 +17,7 @@ use Rattle.report_text.specs.declared.choice.Choice.{Choice}
 use Rattle.report_text.specs.Words.{name_or_empty, wire_name}
 use Rattle.event_laws.proofs.ValueLemmas.{numerals, row_name}
 use Rattle.line_shapes.specs.Laws.{AreKinds, IsKind, WrittenAsRead}
-use Rattle.line_shapes.specs.Shapes.{◌>>=◌, Form, between_two, form_at, found, has_two_edges, has_word, line_said, row_of, value_in, value_word, value_words, values_said}
+use Rattle.line_shapes.specs.Shapes.{◌>>=◌, Form, between_two, form_at, word_found, has_two_edges, has_word, line_said, row_of_word, value_in, value_word, value_words, values_said}
 use Rattle.line_shapes.specs.declared.kind.Kind.{Kind}
 use Rattle.line_shapes.specs.declared.kind.Kind.TheVariants.{Edge, Circuit, Wire, Between, Number, OneOf}
 
@@ -107,7 +107,7 @@ values_of (Err number) = []
 
 more_again : (plan : Plan) (kind : Kind) (kinds : List Kind) (number : ℕ) (o : Option ℕ) (rest : Result (List ℕ) ℕ) (values : List ℕ) (word : List ℕ) (left : List (List ℕ))
     → IfSome o (λ v. value_word plan kind v ≡ word) → ((vs : List ℕ) → rest ≡ Ok vs → value_words plan kinds vs ≡ left)
-    → (found number o >>= (λ v. rest >>= (λ vs. Ok (v ∷ vs)))) ≡ Ok values → value_words plan (kind ∷ kinds) values ≡ word ∷ left
+    → (word_found number o >>= (λ v. rest >>= (λ vs. Ok (v ∷ vs)))) ≡ Ok values → value_words plan (kind ∷ kinds) values ≡ word ∷ left
 unfolding values_of
 more_again plan kind kinds number None rest values word left one all e = cc e
 more_again plan kind kinds number (Some v) (Err n) values word left one all e = cc e
@@ -121,7 +121,7 @@ none_left false number values e = refl
 
 one_again : (plan : Plan) (kind : Kind) (kinds : List Kind) (words : List (List ℕ)) (at : ℕ) (values : List ℕ) (o : Option (List ℕ)) → IsKind kind → slice_get words at ≡ o
     → ((vs : List ℕ) → values_said plan words (at + 1) kinds ≡ Ok vs → value_words plan kinds vs ≡ drop (at + 1) words)
-    → (found (at + 1) (option_and_then (value_in plan kind) o) >>= (λ v. values_said plan words (at + 1) kinds >>= (λ vs. Ok (v ∷ vs)))) ≡ Ok values
+    → (word_found (at + 1) (option_and_then (value_in plan kind) o) >>= (λ v. values_said plan words (at + 1) kinds >>= (λ vs. Ok (v ∷ vs)))) ≡ Ok values
     → value_words plan (kind ∷ kinds) values ≡ drop at words
 one_again plan kind kinds words at values None are is rest same = cc same
 one_again plan kind kinds words at values (Some word) are is rest same =
@@ -135,7 +135,7 @@ values_again plan words at [] values are e = sym (nothing_at words at (none_left
 values_again plan words at (kind ∷ kinds) values are e =
     one_again plan kind kinds words at values (slice_get words at) are.0 refl (λ vs read. values_again plan words (at + 1) kinds vs are.1 read) e
 
-row_word : (forms : List Form) (word : List ℕ) (row : ℕ) → row_of forms word ≡ Some row → (form_at forms row).word ≡ word
+row_word : (forms : List Form) (word : List ℕ) (row : ℕ) → row_of_word forms word ≡ Some row → (form_at forms row).word ≡ word
 row_word forms word row is =
     let found = position-Some (has_word word) forms row (form_at forms row) is in
     ap (λ (f : Form). f.word) (at_form forms row found.0) ∙ (bytes_eq-Decides (get_or forms row (form_at forms row)).word word).0 found.1 where
@@ -159,8 +159,8 @@ row_again_of plan forms row (Ok vs) read word words first all are e =
     subst (λ (x : ℕ × List ℕ). AreKinds (form_at forms x.0).kinds → (form_at forms x.0).word ∷ value_words plan (form_at forms x.0).kinds x.1 ≡ word ∷ words) same
     (λ kinds i. first i ∷ all kinds vs refl i) are
 
-any_again : (plan : Plan) (forms : List Form) (word : List ℕ) (words : List (List ℕ)) (o : Option ℕ) (read : ℕ × List ℕ) → row_of forms word ≡ o → AreKinds (form_at forms read.0).kinds
-    → (found 1 o >>= (λ row. values_said plan (word ∷ words) 1 (form_at forms row).kinds >>= (λ values. Ok (row, values)))) ≡ Ok read
+any_again : (plan : Plan) (forms : List Form) (word : List ℕ) (words : List (List ℕ)) (o : Option ℕ) (read : ℕ × List ℕ) → row_of_word forms word ≡ o → AreKinds (form_at forms read.0).kinds
+    → (word_found 1 o >>= (λ row. values_said plan (word ∷ words) 1 (form_at forms row).kinds >>= (λ values. Ok (row, values)))) ≡ Ok read
     → (form_at forms read.0).word ∷ value_words plan (form_at forms read.0).kinds read.1 ≡ word ∷ words
 any_again plan forms word words None read is are e = cc e
 any_again plan forms word words (Some row) read is are e =
@@ -170,4 +170,4 @@ any_again plan forms word words (Some row) read is are e =
 -- a line is what is written for what was read of it
 pub again : WrittenAsRead
 unfolding line_said
-again plan forms word words read are e = any_again plan forms word words (row_of forms word) read refl are e
+again plan forms word words read are e = any_again plan forms word words (row_of_word forms word) read refl are e

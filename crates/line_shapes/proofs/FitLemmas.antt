@@ -13,7 +13,7 @@ use Rattle.command_text.proofs.NameLemmas.{place_within}
 use Rattle.report_text.specs.Choices.{choice_words}
 use Rattle.line_shapes.specs.declared.kind.Kind.{Kind}
 use Rattle.line_shapes.specs.declared.kind.Kind.TheVariants.{Edge, Circuit, Wire, Between, Number, OneOf}
-use Rattle.line_shapes.specs.Shapes.{◌>>=◌, AreFit, Form, IsFit, between_two, form_at, found, has_two_edges, line_said, row_of, first_said, value_in, values_said}
+use Rattle.line_shapes.specs.Shapes.{◌>>=◌, AreValuesOf, Form, IsFit, between_two, form_at, word_found, has_two_edges, line_said, row_of_word, first_said, value_in, values_said}
 
 some_of : (o : Option ℕ) (n value : ℕ) → IfSome o (λ p. p < n) → o ≡ Some value → value < n
 some_of None n value h e = cc e
@@ -78,7 +78,7 @@ none_left true number values e = cc e
 none_left false number values e = sym (ap values_of e)
 
 more_fit : (plan : Plan) (kind : Kind) (kinds : List Kind) (number : ℕ) (o : Option ℕ) (rest : Result (List ℕ) ℕ) (values : List ℕ) → ((v : ℕ) → o ≡ Some v → IsFit plan kind v)
-    → ((vs : List ℕ) → rest ≡ Ok vs → AreFit plan kinds vs) → (found number o >>= (λ v. rest >>= (λ vs. Ok (v ∷ vs)))) ≡ Ok values → AreFit plan (kind ∷ kinds) values
+    → ((vs : List ℕ) → rest ≡ Ok vs → AreValuesOf plan kinds vs) → (word_found number o >>= (λ v. rest >>= (λ vs. Ok (v ∷ vs)))) ≡ Ok values → AreValuesOf plan (kind ∷ kinds) values
 unfolding values_of
 more_fit plan kind kinds number None rest values one all e = cc e
 more_fit plan kind kinds number (Some v) (Err word) values one all e = cc e
@@ -86,7 +86,7 @@ more_fit plan kind kinds number (Some v) (Ok vs) values one all e =
     let same : v ∷ vs ≡ values = ap values_of e in
     rw (sym same) (omega arith, (one v refl, all vs refl))
 
-pub values_fit : (plan : Plan) (words : List (List ℕ)) (at : ℕ) (kinds : List Kind) (values : List ℕ) → values_said plan words at kinds ≡ Ok values → AreFit plan kinds values
+pub values_fit : (plan : Plan) (words : List (List ℕ)) (at : ℕ) (kinds : List Kind) (values : List ℕ) → values_said plan words at kinds ≡ Ok values → AreValuesOf plan kinds values
 values_fit plan words at [] values e = none_left (is_some (slice_get words at)) (at + 1) values e
 values_fit plan words at (kind ∷ kinds) values e =
     more_fit plan kind kinds (at + 1) (option_and_then (value_in plan kind) (slice_get words at)) (values_said plan words (at + 1) kinds) values
@@ -96,24 +96,24 @@ read_of : Result (ℕ × List ℕ) ℕ → ℕ × List ℕ
 read_of (Ok read) = read
 read_of (Err number) = (0, [])
 
-row_fit : (plan : Plan) (forms : List Form) (row : ℕ) (r : Result (List ℕ) ℕ) (read : ℕ × List ℕ) → ((vs : List ℕ) → r ≡ Ok vs → AreFit plan (form_at forms row).kinds vs)
-    → (r >>= (λ values. Ok (row, values))) ≡ Ok read → AreFit plan (form_at forms read.0).kinds read.1
+row_fit : (plan : Plan) (forms : List Form) (row : ℕ) (r : Result (List ℕ) ℕ) (read : ℕ × List ℕ) → ((vs : List ℕ) → r ≡ Ok vs → AreValuesOf plan (form_at forms row).kinds vs)
+    → (r >>= (λ values. Ok (row, values))) ≡ Ok read → AreValuesOf plan (form_at forms read.0).kinds read.1
 unfolding read_of
 row_fit plan forms row (Err number) read h e = cc e
 row_fit plan forms row (Ok vs) read h e = let same : (row, vs) ≡ read = ap read_of e in rw (sym same) (h vs refl)
 
 any_fit : (plan : Plan) (forms : List Form) (words : List (List ℕ)) (o : Option ℕ) (read : ℕ × List ℕ)
-    → (found 1 o >>= (λ row. values_said plan words 1 (form_at forms row).kinds >>= (λ values. Ok (row, values)))) ≡ Ok read → AreFit plan (form_at forms read.0).kinds read.1
+    → (word_found 1 o >>= (λ row. values_said plan words 1 (form_at forms row).kinds >>= (λ values. Ok (row, values)))) ≡ Ok read → AreValuesOf plan (form_at forms read.0).kinds read.1
 any_fit plan forms words None read e = cc e
 any_fit plan forms words (Some row) read e =
     row_fit plan forms row (values_said plan words 1 (form_at forms row).kinds) read (λ vs is. values_fit plan words 1 (form_at forms row).kinds vs is) e
 
 -- the values of a line fit the kinds of its row
-pub line_fit : (plan : Plan) (forms : List Form) (words : List (List ℕ)) (read : ℕ × List ℕ) → line_said plan forms words ≡ Ok read → AreFit plan (form_at forms read.0).kinds read.1
+pub line_fit : (plan : Plan) (forms : List Form) (words : List (List ℕ)) (read : ℕ × List ℕ) → line_said plan forms words ≡ Ok read → AreValuesOf plan (form_at forms read.0).kinds read.1
 unfolding line_said
-line_fit plan forms words read e = any_fit plan forms words (row_of forms (first_said words)) read e
+line_fit plan forms words read e = any_fit plan forms words (row_of_word forms (first_said words)) read e
 
 pub fit_result : (plan : Plan) (forms : List Form) (words : List (List ℕ)) (r : Result (ℕ × List ℕ) ℕ) → r ≡ line_said plan forms words
-    → IfOk r (λ read. AreFit plan (form_at forms read.0).kinds read.1)
+    → IfOk r (λ read. AreValuesOf plan (form_at forms read.0).kinds read.1)
 fit_result plan forms words (Ok read) is = line_fit plan forms words read (sym is)
 fit_result plan forms words (Err number) is = tt

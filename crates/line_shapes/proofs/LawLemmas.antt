@@ -12,7 +12,7 @@ use Rattle.report_text.specs.declared.choice.Choice.{Choice}
 use Rattle.report_text.specs.declared.choice.Choice.TheVariants.{Switch, Cause, End, State}
 use Rattle.event_laws.proofs.ValueLemmas.{all_below, below_at, number_said, row_said}
 use Rattle.line_shapes.specs.Laws.{IsKind, AreKinds, HaveWords, ReadWhatIsWritten}
-use Rattle.line_shapes.specs.Shapes.{Form, AreFit, IsFit, between_two, form_at, has_word, line_said, row_of, value_in, value_word, value_words, values_said}
+use Rattle.line_shapes.specs.Shapes.{Form, AreValuesOf, IsFit, between_two, form_at, has_word, line_said, row_of_word, value_in, value_word, value_words, values_said}
 use Rattle.line_shapes.specs.declared.kind.Kind.{Kind}
 use Rattle.line_shapes.specs.declared.kind.Kind.TheVariants.{Edge, Circuit, Wire, Between, Number, OneOf}
 
@@ -63,7 +63,7 @@ longer : (front : List (List ℕ)) (word : List ℕ) → length (front ++ word �
 longer [] word = refl
 longer (x ∷ front) word = let more : length (front ++ word ∷ []) ≡ length front + 1 = longer front word in omega (arith, more)
 
-values_read : (plan : Plan) (front : List (List ℕ)) (kinds : List Kind) (values : List ℕ) (at : ℕ) → at ≡ length front → HasNames plan → AreKinds kinds → AreFit plan kinds values
+values_read : (plan : Plan) (front : List (List ℕ)) (kinds : List Kind) (values : List ℕ) (at : ℕ) → at ≡ length front → HasNames plan → AreKinds kinds → AreValuesOf plan kinds values
     → values_said plan (front ++ value_words plan kinds values) at kinds ≡ Ok values
 values_read plan front [] values at is names are fit = rw (is, at_end front, fit) refl
 values_read plan front (kind ∷ kinds) [] at is names are fit = absurd (omega (arith, fit.0))
@@ -82,7 +82,7 @@ first_row (f ∷ forms) zero lt apart = rw (same_octets f.word) refl
 first_row (f ∷ forms) (suc row) lt apart =
     rw (apart 0 (omega arith), first_row forms row (omega (arith, lt)) (λ a under. apart (suc a) (omega (arith, under)))) (omega arith)
 
-row_found : (forms : List Form) (row : ℕ) → HaveWords forms → row < length forms → row_of forms (form_at forms row).word ≡ Some row
+row_found : (forms : List Form) (row : ℕ) → HaveWords forms → row < length forms → row_of_word forms (form_at forms row).word ≡ Some row
 row_found forms row words lt =
     let first : position_or_len (has_word (form_at forms row).word) forms ≡ row = first_row forms row lt (λ a under. words a row under lt) in
     rw (first, lt-ltb row (length forms) lt) refl

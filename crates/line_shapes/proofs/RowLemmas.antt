@@ -7,7 +7,7 @@ use Rattle.std.proofs.lemmas.Bool.Decides.{nat_tests}
 use Rattle.std.proofs.lemmas.List.{length-map}
 use Rattle.std.proofs.lemmas.Slice.Eq.{bytes_eq-Decides}
 use Rattle.command_text.specs.Names.{place_in}
-use Rattle.line_shapes.specs.Shapes.{AreShort, form_at, form_of, has_word, row_of}
+use Rattle.line_shapes.specs.Shapes.{AreShort, form_at, form_of, has_word, row_of_word}
 use Rattle.line_shapes.specs.declared.shape.Shape.{Shape}
 
 -- the form of the row at which a shape stands
@@ -17,7 +17,7 @@ at_row (shape ∷ shapes) zero none lt = refl
 at_row (shape ∷ shapes) (suc row) none lt = at_row shapes row none (omega (arith, lt))
 
 -- and how many words it has
-pub short_row : (shapes : List Shape) (row : ℕ) (none : Shape) → row < length shapes → AreShort (map form_of shapes) → length (get_or shapes row none).1.now ≤ 8
+pub short_row : (shapes : List Shape) (row : ℕ) (none : Shape) → row < length shapes → AreShort (map form_of shapes) → length (get_or shapes row none).1.now ≤ 3
 short_row [] row none lt short = absurd (omega (arith, lt))
 short_row (shape ∷ shapes) zero none lt short = short.0
 short_row (shape ∷ shapes) (suc row) none lt short = short_row shapes row none (omega (arith, lt)) short.1
@@ -30,7 +30,7 @@ same_position : {X Y : Type 0} (f : Y → X) (test : X → Bool) (rows : List Y)
 same_position f test rows = rw (same_place f test rows, length-map rows f) refl
 
 -- the row of a word, by the shapes
-pub row_is : (shapes : List Shape) (word : List ℕ) → position (λ (s : Shape). bytes_eq s.0.now word) shapes ≡ row_of (map form_of shapes) word
+pub row_is : (shapes : List Shape) (word : List ℕ) → position (λ (s : Shape). bytes_eq s.0.now word) shapes ≡ row_of_word (map form_of shapes) word
 row_is shapes word = same_position form_of (has_word word) shapes
 
 -- the place of a word among others

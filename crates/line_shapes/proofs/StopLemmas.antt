@@ -2,7 +2,7 @@
 use Rattle.std.proofs.Common.{◌≡◌, ◌<◌, ◌+◌, ◌++◌, ◌∙◌, ℕ, List, [], ◌∷◌, length, get_or, drop, slice_get, option_and_then, Result, Ok, Err, refl, sym, ap, append_assoc}
 use Rattle.std.proofs.lemmas.List.{at_drop_more}
 use Rattle.net_base.specs.declared.plan.Plan.{Plan}
-use Rattle.line_shapes.specs.Shapes.{◌>>=◌, found, value_in, values_said, with_values}
+use Rattle.line_shapes.specs.Shapes.{◌>>=◌, word_found, value_in, values_said, with_values}
 use Rattle.line_shapes.specs.declared.kind.Kind.{Kind}
 
 number_of : Result ℕ ℕ → ℕ
@@ -15,16 +15,16 @@ stopped (Ok value) f front whole number e same = cc e
 stopped (Err n) f front whole number e same = let is : number ≡ n = ap number_of e in rw is same
 
 pub fails : (plan : Plan) (words : List (List ℕ)) (kinds : List Kind) (front : List ℕ) (place number : ℕ) (none : Kind) (whole : Result (List ℕ) ℕ) → place < length kinds
-    → Err number ≡ found (place + 1 + 1) (option_and_then (value_in plan (get_or kinds place none)) (slice_get words (place + 1)))
+    → Err number ≡ word_found (place + 1 + 1) (option_and_then (value_in plan (get_or kinds place none)) (slice_get words (place + 1)))
     → with_values front (values_said plan words (place + 1) (drop place kinds)) ≡ whole → Err number ≡ whole
 fails plan words kinds front place number none whole lt e same =
-    stopped (found (place + 1 + 1) (option_and_then (value_in plan (get_or kinds place none)) (slice_get words (place + 1))))
+    stopped (word_found (place + 1 + 1) (option_and_then (value_in plan (get_or kinds place none)) (slice_get words (place + 1))))
     (λ value. values_said plan words (place + 1 + 1) (drop (place + 1) kinds) >>= (λ values. Ok (value ∷ values))) front whole number e
     (ap (with_values front) (sym (at_drop_more (values_said plan words (place + 1)) kinds place none lt)) ∙ same)
 
 -- a value more
 pub goes_on : (plan : Plan) (words : List (List ℕ)) (kinds : List Kind) (front new : List ℕ) (place value : ℕ) (none : Kind) (whole : Result (List ℕ) ℕ) → place < length kinds
-    → new ≡ front ++ value ∷ [] → Ok value ≡ found (place + 1 + 1) (option_and_then (value_in plan (get_or kinds place none)) (slice_get words (place + 1)))
+    → new ≡ front ++ value ∷ [] → Ok value ≡ word_found (place + 1 + 1) (option_and_then (value_in plan (get_or kinds place none)) (slice_get words (place + 1)))
     → with_values front (values_said plan words (place + 1) (drop place kinds)) ≡ whole → with_values new (values_said plan words (place + 1 + 1) (drop (place + 1) kinds)) ≡ whole
 goes_on plan words kinds front new place value none whole lt is e same =
     ap (λ (l : List ℕ). with_values l (values_said plan words (place + 1 + 1) (drop (place + 1) kinds))) is

@@ -11,7 +11,7 @@ use Rattle.line_shapes.proofs.AgainLemmas.{again}
 use Rattle.line_shapes.proofs.FitLemmas.{line_fit}
 use Rattle.line_shapes.proofs.LawLemmas.{reads}
 use Rattle.line_shapes.specs.Laws.{AreKinds, HaveWords, IsKind, have_kinds, have_words, is_kind}
-use Rattle.line_shapes.specs.Shapes.{◌>>=◌, AreFit, Form, first_said, form_at, found, has_word, line_said, line_words, no_form, row_of, told_by, values_said}
+use Rattle.line_shapes.specs.Shapes.{◌>>=◌, AreValuesOf, Form, first_said, form_at, word_found, has_word, line_said, row_words, no_form, row_of_word, told_by, values_said}
 use Rattle.line_shapes.specs.declared.kind.Kind.{Kind}
 use Rattle.line_shapes.specs.declared.kind.Kind.TheVariants.{Edge, Circuit, Wire, Between, Number, OneOf}
 
@@ -73,24 +73,24 @@ row_kept row (Ok values) read is = ap row_in is
 row_kept row (Err number) read is = cc is
 
 row_of_read : (plan : Plan) (forms : List Form) (words : List (List ℕ)) (o : Option ℕ) (read : ℕ × List ℕ) → IfSome o (λ row. row < length forms)
-    → (found 1 o >>= (λ row. values_said plan words 1 (form_at forms row).kinds >>= (λ values. Ok (row, values)))) ≡ Ok read → read.0 < length forms
+    → (word_found 1 o >>= (λ row. values_said plan words 1 (form_at forms row).kinds >>= (λ values. Ok (row, values)))) ≡ Ok read → read.0 < length forms
 row_of_read plan forms words None read within e = cc e
 row_of_read plan forms words (Some row) read within e = subst (λ n. n < length forms) (row_kept row (values_said plan words 1 (form_at forms row).kinds) read e) within
 
-row_place : (forms : List Form) (word : List ℕ) → IfSome (row_of forms word) (λ row. row < length forms)
-row_place forms word = by (row_of forms word) refl where
-  by : (o : Option ℕ) → row_of forms word ≡ o → IfSome o (λ row. row < length forms)
+row_place : (forms : List Form) (word : List ℕ) → IfSome (row_of_word forms word) (λ row. row < length forms)
+row_place forms word = by (row_of_word forms word) refl where
+  by : (o : Option ℕ) → row_of_word forms word ≡ o → IfSome o (λ row. row < length forms)
   by None is = tt
   by (Some row) is = (position-Some (has_word word) forms row no_form is).0
 
 -- the row of a line that is read is one of the table
 pub line_within : (plan : Plan) (forms : List Form) (words : List (List ℕ)) (read : ℕ × List ℕ) → line_said plan forms words ≡ Ok read → read.0 < length forms
 unfolding line_said
-line_within plan forms words read e = row_of_read plan forms words (row_of forms (first_said words)) read (row_place forms (first_said words)) e
+line_within plan forms words read e = row_of_read plan forms words (row_of_word forms (first_said words)) read (row_place forms (first_said words)) e
 
 -- what holds of each row, its values and the words that are written for them holds of what is read
 pub rows_hold : {A : Type 0} (plan : Plan) (forms : List Form) (made : ℕ → List ℕ → A) (P : A → List (List ℕ) → Type 0) (word : List ℕ) (words : List (List ℕ)) → have_kinds forms ≡ true
-    → ((row : ℕ) → row < length forms → (v : List ℕ) → AreFit plan (form_at forms row).kinds v → P (made row v) (line_words plan (form_at forms row) v))
+    → ((row : ℕ) → row < length forms → (v : List ℕ) → AreValuesOf plan (form_at forms row).kinds v → P (made row v) (row_words plan (form_at forms row) v))
     → IfSome (told_by made (line_said plan forms (word ∷ words))) (λ x. P x (word ∷ words))
 rows_hold plan forms made P word words kinds each = by (line_said plan forms (word ∷ words)) refl where
   by : (r : Result (ℕ × List ℕ) ℕ) → line_said plan forms (word ∷ words) ≡ r → IfSome (told_by made r) (λ x. P x (word ∷ words))
@@ -104,8 +104,8 @@ pub record IsRow {A : Type 0} (plan : Plan) (forms : List Form) (made : ℕ → 
   pub row : ℕ
   pub values : List ℕ
   pub within : row < length forms
-  pub fit : AreFit plan (form_at forms row).kinds values
-  pub written : words ≡ line_words plan (form_at forms row) values
+  pub fit : AreValuesOf plan (form_at forms row).kinds values
+  pub written : words ≡ row_words plan (form_at forms row) values
   pub is : made row values ≡ x
 
 pub row_read : {A : Type 0} (plan : Plan) (forms : List Form) (made : ℕ → List ℕ → A) (words : List (List ℕ)) (x : A) → HasNames plan → have_words forms ≡ true → have_kinds forms ≡ true

@@ -1,14 +1,14 @@
 -- Values at their places.
 use Rattle.std.proofs.Common.{◌≡◌, ◌<◌, ◌≤◌, ◌+◌, ◌++◌, ℕ, zero, suc, List, [], ◌∷◌, get_or, length, slice_index_or, take, refl, arith}
-use Rattle.line_shapes.specs.Shapes.{AreSmall, IsSmall, value_at, values_behind}
+use Rattle.line_shapes.specs.Shapes.{AreSmall, IsSmall, nth_value, values_behind}
 use Rattle.line_shapes.specs.declared.kind.Kind.{Kind}
 
-nothing : (place : ℕ) → value_at place [] ≡ 0
+nothing : (place : ℕ) → nth_value place [] ≡ 0
 nothing zero = refl
 nothing (suc place) = nothing place
 
 -- a value that is there
-pub value_take : (items : List ℕ) (len place : ℕ) → place < len → value_at place (take len items) ≡ slice_index_or items place 0
+pub value_take : (items : List ℕ) (len place : ℕ) → place < len → nth_value place (take len items) ≡ slice_index_or items place 0
 value_take items zero place lt = absurd (omega (arith, lt))
 value_take [] (suc len) zero lt = refl
 value_take [] (suc len) (suc place) lt = nothing place
@@ -16,7 +16,7 @@ value_take (x ∷ xs) (suc len) zero lt = refl
 value_take (x ∷ xs) (suc len) (suc place) lt = value_take xs len place (omega (arith, lt))
 
 -- one behind the last one
-pub value_past : (items : List ℕ) (len place : ℕ) → len ≤ place → value_at place (take len items) ≡ 0
+pub value_past : (items : List ℕ) (len place : ℕ) → len ≤ place → nth_value place (take len items) ≡ 0
 value_past items zero place le = nothing place
 value_past [] (suc len) place le = nothing place
 value_past (x ∷ xs) (suc len) zero le = absurd (omega (arith, le))

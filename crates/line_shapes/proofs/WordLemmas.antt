@@ -4,7 +4,7 @@ use Rattle.std.proofs.lemmas.List.{at_drop_all, map-append, take_more_set}
 use Rattle.net_base.specs.declared.plan.Plan.{Plan}
 use Rattle.text_lines.specs.Lines.{word_octets}
 use Rattle.text_lines.specs.declared.line_word.LineWord.{LineWord}
-use Rattle.line_shapes.specs.Shapes.{value_at, value_word, value_words, values_behind}
+use Rattle.line_shapes.specs.Shapes.{nth_value, value_word, value_words, values_behind}
 use Rattle.line_shapes.specs.declared.kind.Kind.{Kind}
 
 -- the values from a place on
@@ -14,7 +14,7 @@ values_from (suc place) values = values_from place (values_behind values)
 
 next_word : (plan : Plan) (kinds : List Kind) (values : List ℕ) (place : ℕ) (none : Kind) → place < length kinds
     → value_words plan (drop place kinds) (values_from place values)
-    ≡ value_word plan (get_or kinds place none) (value_at place values) ∷ value_words plan (drop (suc place) kinds) (values_from (suc place) values)
+    ≡ value_word plan (get_or kinds place none) (nth_value place values) ∷ value_words plan (drop (suc place) kinds) (values_from (suc place) values)
 next_word plan [] values place none lt = absurd (omega (arith, lt))
 next_word plan (kind ∷ kinds) values zero none lt = refl
 next_word plan (kind ∷ kinds) values (suc place) none lt = next_word plan kinds (values_behind values) place none (omega (arith, lt))
@@ -25,13 +25,13 @@ one_more room count word lt = ap (λ (l : List LineWord). map word_octets l) (ta
 
 -- one word more
 pub words_more : (plan : Plan) (kinds : List Kind) (values : List ℕ) (room : List LineWord) (count place : ℕ) (none : Kind) (word : LineWord) (value : ℕ) {whole : List (List ℕ)}
-    → place < length kinds → count < length room → word_octets word ≡ value_word plan (get_or kinds place none) value → value ≡ value_at place values
+    → place < length kinds → count < length room → word_octets word ≡ value_word plan (get_or kinds place none) value → value ≡ nth_value place values
     → map word_octets (take count room) ++ value_words plan (drop place kinds) (values_from place values) ≡ whole
     → map word_octets (take (count + 1) (slice_set room count word)) ++ value_words plan (drop (place + 1) kinds) (values_from (place + 1) values) ≡ whole
 words_more plan kinds values room count place none word value lt few said is same =
     let front : List (List ℕ) = map word_octets (take count room) in
     let rest : List (List ℕ) = value_words plan (drop (suc place) kinds) (values_from (suc place) values) in
-    let there : word_octets word ≡ value_word plan (get_or kinds place none) (value_at place values) = said ∙ ap (value_word plan (get_or kinds place none)) is in
+    let there : word_octets word ≡ value_word plan (get_or kinds place none) (nth_value place values) = said ∙ ap (value_word plan (get_or kinds place none)) is in
     let next : place + 1 ≡ suc place = omega arith in
     rw next (ap (λ (l : List (List ℕ)). l ++ rest) (one_more room count word few)
     ∙ (append_assoc front (word_octets word ∷ []) rest

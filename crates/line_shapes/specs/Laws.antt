@@ -6,7 +6,7 @@ use Rattle.net_base.specs.declared.plan.Plan.{Plan}
 use Rattle.event_laws.specs.Law.{HasNames}
 use Rattle.line_shapes.specs.declared.kind.Kind.{Kind}
 use Rattle.line_shapes.specs.declared.kind.Kind.TheVariants.{Edge, Circuit, Wire, Between, Number, OneOf}
-use Rattle.line_shapes.specs.Shapes.{Form, AreFit, form_at, line_said, line_words}
+use Rattle.line_shapes.specs.Shapes.{Form, AreValuesOf, form_at, line_said, row_words}
 
 -- no number has more than 64 bits
 abbrev pub IsKind : Kind → Type 0
@@ -28,12 +28,12 @@ HaveWords forms = (a b : ℕ) → a < b → b < length forms → bytes_eq (form_
 -- values of a row are read back from their words
 abbrev pub ReadWhatIsWritten : Type 0
 ReadWhatIsWritten = (plan : Plan) (forms : List Form) (row : ℕ) (values : List ℕ) → HasNames plan → HaveWords forms → row < length forms → AreKinds (form_at forms row).kinds
-    → AreFit plan (form_at forms row).kinds values → line_said plan forms (line_words plan (form_at forms row) values) ≡ Ok (row, values)
+    → AreValuesOf plan (form_at forms row).kinds values → line_said plan forms (row_words plan (form_at forms row) values) ≡ Ok (row, values)
 
 -- the words that are read as values of a row are those that are written for them
 abbrev pub WrittenAsRead : Type 0
 WrittenAsRead = (plan : Plan) (forms : List Form) (word : List ℕ) (words : List (List ℕ)) (read : ℕ × List ℕ) → AreKinds (form_at forms read.0).kinds
-    → line_said plan forms (word ∷ words) ≡ Ok read → line_words plan (form_at forms read.0) read.1 ≡ word ∷ words
+    → line_said plan forms (word ∷ words) ≡ Ok read → row_words plan (form_at forms read.0) read.1 ≡ word ∷ words
 
 -- ---- tests of a table, which compute
 

@@ -62,14 +62,14 @@ values_behind [] = []
 values_behind (value ∷ values) = values
 
 -- the value at a place from 0
-abbrev pub value_at : ℕ → List ℕ → ℕ
-value_at zero values = first_value values
-value_at (suc place) values = value_at place (values_behind values)
+abbrev pub nth_value : ℕ → List ℕ → ℕ
+nth_value zero values = first_value values
+nth_value (suc place) values = nth_value place (values_behind values)
 
 -- values of these kinds, one each
-abbrev pub AreFit : Plan → List Kind → List ℕ → Type 0
-AreFit plan [] values = values ≡ []
-AreFit plan (kind ∷ kinds) values = (length (values_behind values) + 1 ≡ length values) × (IsFit plan kind (first_value values) × AreFit plan kinds (values_behind values))
+abbrev pub AreValuesOf : Plan → List Kind → List ℕ → Type 0
+AreValuesOf plan [] values = values ≡ []
+AreValuesOf plan (kind ∷ kinds) values = (length (values_behind values) + 1 ≡ length values) × (IsFit plan kind (first_value values) × AreValuesOf plan kinds (values_behind values))
 
 -- a place that has no more than 16 bits
 abbrev pub IsSmall : Kind → ℕ → Type 0
@@ -103,15 +103,15 @@ abbrev pub ◌>>=◌ : {A B : Type 0} → Result A ℕ → (A → Result B ℕ) 
 (Err number) >>= f = Err number
 
 -- what has to be there, or the number of the word that lacks it
-abbrev pub found : {A : Type 0} → ℕ → Option A → Result A ℕ
-found number None = Err number
-found number (Some x) = Ok x
+abbrev pub word_found : {A : Type 0} → ℕ → Option A → Result A ℕ
+word_found number None = Err number
+word_found number (Some x) = Ok x
 
 -- the values of the words from this place on, counted from 0, or the number from 1 of the first word that does not fit
 abbrev pub values_said : Plan → List (List ℕ) → ℕ → List Kind → Result (List ℕ) ℕ
 values_said plan words at [] = if is_some (slice_get words at) then Err (at + 1) else Ok []
 values_said plan words at (kind ∷ kinds) =
-    found (at + 1) (option_and_then (value_in plan kind) (slice_get words at)) >>= (λ value. values_said plan words (at + 1) kinds >>= (λ values. Ok (value ∷ values)))
+    word_found (at + 1) (option_and_then (value_in plan kind) (slice_get words at)) >>= (λ value. values_said plan words (at + 1) kinds >>= (λ values. Ok (value ∷ values)))
 
 -- these before those read
 abbrev pub with_values : List ℕ → Result (List ℕ) ℕ → Result (List ℕ) ℕ
@@ -124,17 +124,17 @@ value_words plan (kind ∷ kinds) values = value_word plan kind (first_value val
 
 -- ---- one of several shapes
 
--- lines have eight words behind the first one at most
+-- lines have three words behind the first one at most
 abbrev pub AreShort : List Form → Type 0
 AreShort [] = Unit {0}
-AreShort (f ∷ forms) = (length f.kinds ≤ 8) × AreShort forms
+AreShort (f ∷ forms) = (length f.kinds ≤ 3) × AreShort forms
 
 abbrev pub has_word : List ℕ → Form → Bool
 has_word word f = bytes_eq f.word word
 
 -- the first row of this word
-abbrev pub row_of : List Form → List ℕ → Option ℕ
-row_of forms word = position (has_word word) forms
+abbrev pub row_of_word : List Form → List ℕ → Option ℕ
+row_of_word forms word = position (has_word word) forms
 
 abbrev pub no_form : Form
 no_form = form [] []
@@ -153,7 +153,7 @@ first_said (word ∷ words) = word
 -- the row and the values of a line, or the number of the first word that does not fit
 unfoldable pub line_said : Plan → List Form → List (List ℕ) → Result (ℕ × List ℕ) ℕ
 line_said plan forms words =
-    found 1 (row_of forms (first_said words)) >>= (λ row. values_said plan words 1 (form_at forms row).kinds >>= (λ values. Ok (row, values)))
+    word_found 1 (row_of_word forms (first_said words)) >>= (λ row. values_said plan words 1 (form_at forms row).kinds >>= (λ values. Ok (row, values)))
 
 -- what a row and its values make; a word that does not fit tells nothing
 abbrev pub told_by : {A : Type 0} → (ℕ → List ℕ → A) → Result (ℕ × List ℕ) ℕ → Option A
@@ -161,5 +161,5 @@ told_by made (Ok read) = Some (made read.0 read.1)
 told_by made (Err number) = None
 
 -- the words of a line
-abbrev pub line_words : Plan → Form → List ℕ → List (List ℕ)
-line_words plan f values = f.word ∷ value_words plan f.kinds values
+abbrev pub row_words : Plan → Form → List ℕ → List (List ℕ)
+row_words plan f values = f.word ∷ value_words plan f.kinds values

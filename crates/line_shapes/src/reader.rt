@@ -1,7 +1,7 @@
 //! The values of lines.
 ghost use Rattle.std.specs.Prelude.{◌≡◌, ◌<◌, ◌≤◌, ◌+◌, bytes_eq, length, map, position, slice_get, option_and_then, IfOk, IfSome};
 ghost use Rattle.command_text.specs.Planned.{names_of};
-ghost use Rattle.line_shapes.specs.Shapes.{AreFit, AreShort, AreSmall, IsSmall, between_two, first_said, form_at, form_of, found, line_said, row_of, value_in, values_said};
+ghost use Rattle.line_shapes.specs.Shapes.{AreValuesOf, AreShort, AreSmall, IsSmall, between_two, first_said, form_at, form_of, word_found, line_said, row_of_word, value_in, values_said};
 
 use crate::choice::place_of;
 use crate::kind::Kind;
@@ -42,6 +42,7 @@ fn between(plan: &Plan, place: u16) -> Option<u64>
 }
 
 // The value that a word says.
+#[inline(always)]
 fn value(plan: &Plan, names: &PlanNames<'_>, kind: Kind, word: &[u8]) -> Option<u64>
     requires names { names.now ≡ names_of plan.now }
     ensures exact { result ≡ value_in plan.now kind word.now }
@@ -61,6 +62,7 @@ fn value(plan: &Plan, names: &PlanNames<'_>, kind: Kind, word: &[u8]) -> Option<
 }
 
 // The value of the word at an index from 0; its number, counted from 1, where it is missing or says none.
+#[inline(always)]
 fn value_at_word<W: Words>(
     plan: &Plan,
     names: &PlanNames<'_>,
@@ -69,8 +71,8 @@ fn value_at_word<W: Words>(
     at: usize,
 ) -> Result<u64, u32>
     requires names { names.now ≡ names_of plan.now }
-    requires few { at ≤ 8 }
-    ensures exact { result ≡ found (at + 1) (option_and_then (value_in plan.now kind) (slice_get (W.words line.now) at)) }
+    requires few { at ≤ 3 }
+    ensures exact { result ≡ word_found (at + 1) (option_and_then (value_in plan.now kind) (slice_get (W.words line.now) at)) }
     ensures small { IfOk result (IsSmall kind) }
 {
     match line.word_at(at) {
@@ -91,7 +93,7 @@ fn read_values<W: Words>(
     line: &W,
 ) -> Result<Values, u32>
     requires names { names.now ≡ names_of plan.now }
-    requires few { length kinds.now ≤ 8 }
+    requires few { length kinds.now ≤ 3 }
     ensures exact { result ≡ values_said plan.now (W.words line.now) 1 kinds.now }
     ensures small { IfOk result (AreSmall kinds.now) }
 {
@@ -109,18 +111,27 @@ fn read_values<W: Words>(
     }
 }
 
+// Whether a shape is that of a first word. Most others have another length.
+#[inline(always)]
+#[tactic(auto, using(crate::proofs::RowLemmas::other_length))]
+fn begins(shape: &Shape<'_>, word: &[u8]) -> bool
+    ensures { result ≡ bytes_eq shape.now.0.now word.now }
+{
+    shape.0.len() == word.len() && shape.0 == word
+}
+
 // The place of the first shape of a word.
 fn place_of_word(shapes: &[Shape<'_>], word: &[u8]) -> Option<usize>
     ensures exact { result ≡ position (λ shape. bytes_eq shape.0.now word.now) shapes.now }
     ensures within { IfSome result (λ row. row < length shapes.now) }
 {
-    shapes.iter().position(|shape| shape.0 == word)
+    shapes.iter().position(|shape| begins(shape, word))
 }
 
 // The row of a first word.
 #[tactic(auto, using(crate::proofs::RowLemmas::row_is))]
 fn row(shapes: &[Shape<'_>], word: &[u8]) -> Option<usize>
-    ensures exact { result ≡ row_of (map form_of shapes.now) word.now }
+    ensures exact { result ≡ row_of_word (map form_of shapes.now) word.now }
     ensures within { IfSome result (λ row. row < length shapes.now) }
 {
     place_of_word(shapes, word)
@@ -132,7 +143,7 @@ pub fn shape_at<'a>(shapes: &[Shape<'a>], row: usize) -> Shape<'a>
     requires within { row < length shapes.now }
     requires few { AreShort (map form_of shapes.now) }
     ensures form { form_of result ≡ form_at (map form_of shapes.now) row }
-    ensures short { length result.1.now ≤ 8 }
+    ensures short { length result.1.now ≤ 3 }
 {
     shapes[row]
 }
@@ -182,7 +193,7 @@ pub fn read_shaped<W: Words>(
     requires few { AreShort (map form_of shapes.now) }
     ensures exact { result ≡ line_said plan.now (map form_of shapes.now) (W.words line.now) }
     ensures within { IfOk result (λ read. read.0 < length shapes.now) }
-    ensures fit { IfOk result (λ read. AreFit plan.now (form_at (map form_of shapes.now) read.0).kinds read.1) }
+    ensures fit { IfOk result (λ read. AreValuesOf plan.now (form_at (map form_of shapes.now) read.0).kinds read.1) }
     ensures small { IfOk result (λ read. AreSmall (form_at (map form_of shapes.now) read.0).kinds read.1) }
 {
     read_row(plan, names, shapes, line)

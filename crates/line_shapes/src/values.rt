@@ -3,13 +3,10 @@
 use net_base::{CircuitId, EdgeId, WireId};
 use std::marker::Model;
 
-/// The most values of a line.
-pub const MOST: usize = 8;
-
-/// What the words behind the first one of a line say: places and numbers. Contracts see it as the list of them.
+/// What the words behind the first one of a line say: places and numbers, three at most. Contracts see it as the list of them.
 #[derive(Debug, Drop)]
 pub struct Values {
-    items: [u64; 8],
+    items: [u64; 3],
     len: usize,
 }
 
@@ -20,26 +17,26 @@ impl Model for Values {
 
     ghost view = { λ v. take v.len v.items };
 
-    ghost invariant = { λ v. v.len ≤ 8 };
+    ghost invariant = { λ v. v.len ≤ 3 };
 }
 
 impl Values {
     ghost use Rattle.std.specs.Prelude.{◌≡◌, ◌<◌, ◌≤◌, ◌++◌, ◌∷◌, [], length, take};
-    ghost use Rattle.line_shapes.specs.Shapes.{value_at};
+    ghost use Rattle.line_shapes.specs.Shapes.{nth_value};
 
     /// No values.
     pub fn new() -> Values
         ensures { result ≡ [] }
     {
         Values {
-            items: [0; 8],
+            items: [0; 3],
             len: 0,
         }
     }
 
     /// These values.
     pub fn of(values: &[u64]) -> Values
-        requires { length values.now ≤ 8 }
+        requires { length values.now ≤ 3 }
         ensures { result ≡ values.now }
     {
         let mut all = Values::new();
@@ -51,7 +48,7 @@ impl Values {
 
     /// One more value.
     pub fn push(&mut self, value: u64)
-        requires { length self.old < 8 }
+        requires { length self.old < 3 }
         ensures { self.new ≡ self.old ++ value ∷ [] }
     {
         self.items[self.len] = value;
@@ -60,7 +57,7 @@ impl Values {
 
     /// The value at a place from 0, and 0 behind the last one.
     pub fn at(&self, place: usize) -> u64
-        ensures { result ≡ value_at place self.now }
+        ensures { result ≡ nth_value place self.now }
     {
         if place < self.len {
             self.items[place]
@@ -71,24 +68,24 @@ impl Values {
 
     /// The edge of the place that is a value.
     pub fn edge(&self, place: usize) -> EdgeId
-        requires { value_at place self.now < 65536 }
-        ensures { result ≡ record { 0 = value_at place self.now } }
+        requires { nth_value place self.now < 65536 }
+        ensures { result ≡ record { 0 = nth_value place self.now } }
     {
         EdgeId(self.at(place) as u16)
     }
 
     /// The circuit of the place that is a value.
     pub fn circuit(&self, place: usize) -> CircuitId
-        requires { value_at place self.now < 65536 }
-        ensures { result ≡ record { 0 = value_at place self.now } }
+        requires { nth_value place self.now < 65536 }
+        ensures { result ≡ record { 0 = nth_value place self.now } }
     {
         CircuitId(self.at(place) as u16)
     }
 
     /// The wire of the place that is a value.
     pub fn wire(&self, place: usize) -> WireId
-        requires { value_at place self.now < 65536 }
-        ensures { result ≡ record { 0 = value_at place self.now } }
+        requires { nth_value place self.now < 65536 }
+        ensures { result ≡ record { 0 = nth_value place self.now } }
     {
         WireId(self.at(place) as u16)
     }

@@ -1,6 +1,6 @@
 //! The words of values.
 ghost use Rattle.std.specs.Prelude.{◌≡◌, ◌≤◌, ◌+◌, length, map, take, ◌∷◌};
-ghost use Rattle.line_shapes.specs.Shapes.{form_of, line_words, value_word, value_words};
+ghost use Rattle.line_shapes.specs.Shapes.{form_of, row_words, value_word, value_words};
 ghost use Rattle.text_lines.specs.Lines.{word_octets};
 
 use crate::kind::Kind;
@@ -11,7 +11,7 @@ use report_text::word_of;
 use text_lines::LineWord;
 
 /// The most words of a line of a shape.
-pub const SHAPED: usize = 9;
+pub const SHAPED: usize = 4;
 
 // The name of an edge; empty outside the plan.
 fn edge(plan: &Plan, place: usize) -> &[u8]
@@ -61,12 +61,12 @@ pub fn shaped_words<'a>(
     plan: &'a Plan,
     shape: Shape<'a>,
     values: &Values,
-    room: &mut [LineWord<'a>; 9],
+    room: &mut [LineWord<'a>; 4],
 ) -> usize
-    requires few { length shape.1.now ≤ 8 }
-    ensures size { length room.new ≡ 9 }
-    ensures within { result ≤ 9 }
-    ensures words { map word_octets (take result room.new) ≡ line_words plan.now (form_of shape.entry) values.now }
+    requires few { length shape.1.now ≤ 3 }
+    ensures size { length room.new ≡ 4 }
+    ensures within { result ≤ 4 }
+    ensures words { map word_octets (take result room.new) ≡ row_words plan.now (form_of shape.entry) values.now }
 {
     room[0] = LineWord::Text(shape.0);
     let mut count = 1;

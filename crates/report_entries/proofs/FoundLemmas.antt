@@ -31,7 +31,7 @@ use Rattle.report_text.specs.Words.{arrival_name, circuit_name, edge_name, event
 use Rattle.event_laws.specs.Law.{HasNames}
 use Rattle.event_laws.proofs.ValueLemmas.{all_below, below_at, number_said, octets_read, row_said}
 use Rattle.line_shapes.specs.Laws.{have_kinds, have_words}
-use Rattle.line_shapes.specs.Shapes.{form_at, line_words as words_of_row}
+use Rattle.line_shapes.specs.Shapes.{form_at, row_words}
 use Rattle.line_shapes.proofs.TableLemmas.{IsRow, row_read}
 use Rattle.report_text.specs.Named.{AreOctetsTold, HasNamesApart, IsArrival, IsCircuit, IsNamedEdge, IsEntryNamed, IsNamedEvent, IsToldNumber, IsWire}
 use Rattle.report_entries.proofs.ApartLemmas.{names_apart}
@@ -65,7 +65,7 @@ abbrev as_wire : Option ℕ → Option WireId
 as_wire place = option_map (λ (n : ℕ). record { 0 = n }) place
 
 -- no row is that of a frame
-no_frame : (plan : Plan) (row : ℕ) (values : List ℕ) → row < 13 → event_told plan (words_of_row plan (form_at event_forms row) values) ≡ row_event plan (words_of_row plan (form_at event_forms row) values)
+no_frame : (plan : Plan) (row : ℕ) (values : List ℕ) → row < 13 → event_told plan (row_words plan (form_at event_forms row) values) ≡ row_event plan (row_words plan (form_at event_forms row) values)
 unfolding all_below
 no_frame plan row values lt =
     rw (not-true (bytes_eq (form_at event_forms row).word (codes "frame")) (below_at (λ n. not (bytes_eq (form_at event_forms n).word (codes "frame"))) 13 row refl lt)) refl

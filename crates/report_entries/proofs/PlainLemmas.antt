@@ -31,7 +31,7 @@ use Rattle.report_text.specs.Read.{IsEnding}
 use Rattle.report_text.specs.Words.{arrival_name, circuit_name, edge_name, event_words, name_or_empty, wire_name}
 use Rattle.event_laws.specs.Law.{AreNames, HasNames}
 use Rattle.line_shapes.specs.Laws.{AreKinds, IsKind, have_kinds}
-use Rattle.line_shapes.specs.Shapes.{AreFit, Form, IsFit, first_value, form_at, value_word, value_words, values_behind}
+use Rattle.line_shapes.specs.Shapes.{AreValuesOf, Form, IsFit, first_value, form_at, value_word, value_words, values_behind}
 use Rattle.line_shapes.specs.declared.kind.Kind.{Kind}
 use Rattle.line_shapes.specs.declared.kind.Kind.TheVariants as kind
 use Rattle.line_shapes.proofs.TableLemmas.{IsRow, are_kinds}
@@ -122,7 +122,7 @@ module _ (plan : Plan) (names : HasNames plan) where
   value_plain (kind.Number low high) value is fit = number_plain value (omega (arith, is, fit.1))
   value_plain (kind.OneOf choice) value is fit = choice_plain choice value
 
-  values_plain : (kinds : List Kind) (values : List ℕ) → AreKinds kinds → AreFit plan kinds values → IsPlainLine (value_words plan kinds values)
+  values_plain : (kinds : List Kind) (values : List ℕ) → AreKinds kinds → AreValuesOf plan kinds values → IsPlainLine (value_words plan kinds values)
   values_plain [] values are fit = tt
   values_plain (kind ∷ kinds) values are fit = (value_plain kind (first_value values) are.0 fit.1.0, values_plain kinds (values_behind values) are.1 fit.1.1)
 

@@ -23,7 +23,7 @@ use Rattle.report_text.specs.declared.choice.Choice.TheVariants as choice
 use Rattle.report_text.specs.Named.{IsEntryNamed, IsFromTo, IsNamedEdge, IsNamedEvent, IsToldNumber, IsWire}
 use Rattle.report_text.specs.Report.{entry_words}
 use Rattle.report_text.specs.Words.{event_words}
-use Rattle.line_shapes.specs.Shapes.{AreFit, form_at, line_words, value_at, value_word}
+use Rattle.line_shapes.specs.Shapes.{AreValuesOf, form_at, row_words, nth_value, value_word}
 use Rattle.line_shapes.specs.declared.kind.Kind.{Kind}
 use Rattle.line_shapes.specs.declared.kind.Kind.TheVariants as kind
 use Rattle.line_shapes.proofs.TableLemmas.{AllBelow, IsRow}
@@ -106,14 +106,14 @@ state_told (state.Ended reason.BadIdentifier) = (omega arith, refl)
 
 -- what a row makes of values that fit it names places of the plan, and has the words of the row
 abbrev pub EventRow : Plan → ℕ → Type 0
-EventRow plan row = (v : List ℕ) → AreFit plan (form_at event_forms row).kinds v → IsNamedEvent plan (event_made row v) × (event_words plan (event_made row v) ≡ line_words plan (form_at event_forms row) v)
+EventRow plan row = (v : List ℕ) → AreValuesOf plan (form_at event_forms row).kinds v → IsNamedEvent plan (event_made row v) × (event_words plan (event_made row v) ≡ row_words plan (form_at event_forms row) v)
 
 abbrev pub EntryRow : Plan → ℕ → Type 0
-EntryRow plan row = (v : List ℕ) → AreFit plan (form_at entry_forms row).kinds v → IsEntryNamed plan (entry_made row v) × (entry_words plan (entry_made row v) ≡ line_words plan (form_at entry_forms row) v)
+EntryRow plan row = (v : List ℕ) → AreValuesOf plan (form_at entry_forms row).kinds v → IsEntryNamed plan (entry_made row v) × (entry_words plan (entry_made row v) ≡ row_words plan (form_at entry_forms row) v)
 
 -- an edge, a wire and one word behind them
 abbrev at_end_of : Plan → List ℕ → List ℕ → List ℕ → List (List ℕ)
-at_end_of plan first v word = first ∷ value_word plan kind.Edge (value_at 0 v) ∷ value_word plan kind.Wire (value_at 1 v) ∷ word ∷ []
+at_end_of plan first v word = first ∷ value_word plan kind.Edge (nth_value 0 v) ∷ value_word plan kind.Wire (nth_value 1 v) ∷ word ∷ []
 
 module _ (plan : Plan) where
   deliver_row : EventRow plan 0
@@ -141,10 +141,10 @@ module _ (plan : Plan) where
   tick_row v fit = (tt, refl)
 
   wire_row : EventRow plan 8
-  wire_row v fit = ((fit.1.0, fit.1.1.1.0), ap (at_end_of plan (codes "wire") v) (switch_word (value_at 2 v) fit.1.1.1.1.1.0))
+  wire_row v fit = ((fit.1.0, fit.1.1.1.0), ap (at_end_of plan (codes "wire") v) (switch_word (nth_value 2 v) fit.1.1.1.1.1.0))
 
   circuit_row : EventRow plan 9
-  circuit_row v fit = (fit.1.0, ap (λ (w : List ℕ). codes "circuit" ∷ value_word plan kind.Circuit (value_at 0 v) ∷ w ∷ []) (switch_word (value_at 1 v) fit.1.1.1.0))
+  circuit_row v fit = (fit.1.0, ap (λ (w : List ℕ). codes "circuit" ∷ value_word plan kind.Circuit (nth_value 0 v) ∷ w ∷ []) (switch_word (nth_value 1 v) fit.1.1.1.0))
 
   status_row : EventRow plan 10
   status_row v fit = ((fit.1.0, (fit.1.1.1.0, fit.1.1.1.1.1.0)), refl)
@@ -158,23 +158,23 @@ module _ (plan : Plan) where
   pub event_rows : AllBelow (EventRow plan) 13
   event_rows = (((((((((((((tt, deliver_row), arrive_row), discard_row), again_row), connect_row), lose_row), restart_row), tick_row), wire_row), circuit_row), status_row), priority_row), ping_row)
 
-  idle_row : EntryRow plan 0
+  idle_row : EntryRow plan 3
   idle_row v fit = (tt, refl)
 
-  session_row : EntryRow plan 1
+  session_row : EntryRow plan 0
   session_row v fit = (
     (fit.1.0, fit.1.1.1.0),
-    ap (λ (w : List ℕ). codes "session" ∷ value_word plan kind.Edge (value_at 0 v) ∷ value_word plan kind.Edge (value_at 1 v) ∷ w ∷ []) (state_word (value_at 2 v) fit.1.1.1.1.1.0),
+    ap (λ (w : List ℕ). codes "session" ∷ value_word plan kind.Edge (nth_value 0 v) ∷ value_word plan kind.Edge (nth_value 1 v) ∷ w ∷ []) (state_word (nth_value 2 v) fit.1.1.1.1.1.0),
   )
 
-  down_row : EntryRow plan 2
-  down_row v fit = ((fit.1.0, fit.1.1.1.0), ap (at_end_of plan (codes "wire") v) (end_word (value_at 2 v) fit.1.1.1.1.1.0))
+  down_row : EntryRow plan 1
+  down_row v fit = ((fit.1.0, fit.1.1.1.0), ap (at_end_of plan (codes "wire") v) (end_word (nth_value 2 v) fit.1.1.1.1.1.0))
 
-  dropped_row : EntryRow plan 3
+  dropped_row : EntryRow plan 2
   dropped_row v fit = (
     (fit.1.0, omega (arith, fit.1.1.1.0.1)),
-    ap (λ (w : List ℕ). codes "dropped" ∷ value_word plan kind.Edge (value_at 0 v) ∷ value_word plan (kind.Number 0 18446744073709551615) (value_at 1 v) ∷ w ∷ [])
-        (cause_word (value_at 2 v) fit.1.1.1.1.1.0),
+    ap (λ (w : List ℕ). codes "dropped" ∷ value_word plan kind.Edge (nth_value 0 v) ∷ value_word plan (kind.Number 0 18446744073709551615) (nth_value 1 v) ∷ w ∷ [])
+        (cause_word (nth_value 2 v) fit.1.1.1.1.1.0),
   )
 
   copied_row : EntryRow plan 4
@@ -187,7 +187,7 @@ module _ (plan : Plan) where
   pong_row v fit = ((fit.1.0, (fit.1.1.1.0, fit.1.1.1.1.1.0)), refl)
 
   pub entry_rows : AllBelow (EntryRow plan) 7
-  entry_rows = (((((((tt, idle_row), session_row), down_row), dropped_row), copied_row), aged_row), pong_row)
+  entry_rows = (((((((tt, session_row), down_row), dropped_row), idle_row), copied_row), aged_row), pong_row)
 
   -- ---- the row of each
 
@@ -227,11 +227,11 @@ module _ (plan : Plan) where
   event_row (event.Ping edge wire) is = inr (record { row = 12; values = edge.0 ∷ wire.0 ∷ []; within = omega arith; fit = (refl, (is.0, (refl, (is.1, refl)))); written = refl; is = refl })
 
   pub idle_told : IsEntryRow entry.Idle
-  idle_told = record { row = 0; values = []; within = omega arith; fit = refl; written = refl; is = refl }
+  idle_told = record { row = 3; values = []; within = omega arith; fit = refl; written = refl; is = refl }
 
   pub session_told : (edge peer : EdgeId) (x : StateName) → IsNamedEdge plan edge → IsNamedEdge plan peer → IsEntryRow (entry.Session edge peer x)
   session_told edge peer x is_edge is_peer = record {
-    row = 1;
+    row = 0;
     values = edge.0 ∷ peer.0 ∷ state_place x ∷ [];
     within = omega arith;
     fit = (refl, (is_edge, (refl, (is_peer, (refl, ((state_told x).0, refl))))));
@@ -241,7 +241,7 @@ module _ (plan : Plan) where
 
   pub down_told : (edge : EdgeId) (wire : WireId) (x : Option Down) → IsNamedEdge plan edge → IsWire plan wire → IsEntryRow (entry.Wire edge wire x)
   down_told edge wire x is_edge is_wire = record {
-    row = 2;
+    row = 1;
     values = edge.0 ∷ wire.0 ∷ end_place x ∷ [];
     within = omega arith;
     fit = (refl, (is_edge, (refl, (is_wire, (refl, ((end_told x).0, refl))))));
@@ -251,7 +251,7 @@ module _ (plan : Plan) where
 
   pub dropped_told : (edge : EdgeId) (origin : ℕ) (x : DropCause) → IsNamedEdge plan edge → IsToldNumber origin → IsEntryRow (entry.Dropped edge origin x)
   dropped_told edge origin x is_edge is_origin = record {
-    row = 3;
+    row = 2;
     values = edge.0 ∷ origin ∷ cause_place x ∷ [];
     within = omega arith;
     fit = (refl, (is_edge, (refl, ((omega arith, omega (arith, is_origin)), (refl, ((cause_told x).0, refl))))));

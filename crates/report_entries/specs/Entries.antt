@@ -9,7 +9,7 @@ use Rattle.command_text.specs.declared.plan_names.PlanNames.{PlanNames}
 use Rattle.report_text.specs.Choices.{cause_at, end_at, state_at}
 use Rattle.report_text.specs.Report.{entry_line}
 use Rattle.report_text.specs.declared.choice.Choice.TheVariants.{Cause, End, State}
-use Rattle.line_shapes.specs.Shapes.{Form, form, line_said, told_by, value_at}
+use Rattle.line_shapes.specs.Shapes.{Form, form, line_said, told_by, nth_value}
 use Rattle.line_shapes.specs.declared.kind.Kind.TheVariants.{Edge, Wire, Number, OneOf}
 use Rattle.report_entries.specs.declared.passed.Carried.{Carried}
 use Rattle.report_entries.specs.declared.passed.Passed.{Passed}
@@ -70,10 +70,10 @@ left_in names words = None
 -- the rows of those without octets
 abbrev pub entry_forms : List Form
 entry_forms =
-    form (codes "idle") []
-    ∷ form (codes "session") (Edge ∷ Edge ∷ OneOf State ∷ [])
+    form (codes "session") (Edge ∷ Edge ∷ OneOf State ∷ [])
     ∷ form (codes "wire") (Edge ∷ Wire ∷ OneOf End ∷ [])
     ∷ form (codes "dropped") (Edge ∷ Number 0 18446744073709551615 ∷ OneOf Cause ∷ [])
+    ∷ form (codes "idle") []
     ∷ form (codes "copied") (Number 0 18446744073709551615 ∷ Number 0 18446744073709551615 ∷ [])
     ∷ form (codes "aged") (Number 0 18446744073709551615 ∷ [])
     ∷ form (codes "pong") (Edge ∷ Wire ∷ Number 0 65535 ∷ [])
@@ -82,13 +82,13 @@ entry_forms =
 -- the entry of a row and its values
 abbrev pub entry_made : ℕ → List ℕ → Entry
 entry_made row v =
-    if row == 0 then entry.Idle
-    else if row == 1 then entry.Session (record { 0 = value_at 0 v }) (record { 0 = value_at 1 v }) (state_at (value_at 2 v))
-    else if row == 2 then entry.Wire (record { 0 = value_at 0 v }) (record { 0 = value_at 1 v }) (end_at (value_at 2 v))
-    else if row == 3 then entry.Dropped (record { 0 = value_at 0 v }) (value_at 1 v) (cause_at (value_at 2 v))
-    else if row == 4 then entry.Copied (value_at 0 v) (value_at 1 v)
-    else if row == 5 then entry.Aged (value_at 0 v)
-    else entry.Pong (record { 0 = value_at 0 v }) (record { 0 = value_at 1 v }) (value_at 2 v)
+    if row == 0 then entry.Session (record { 0 = nth_value 0 v }) (record { 0 = nth_value 1 v }) (state_at (nth_value 2 v))
+    else if row == 1 then entry.Wire (record { 0 = nth_value 0 v }) (record { 0 = nth_value 1 v }) (end_at (nth_value 2 v))
+    else if row == 2 then entry.Dropped (record { 0 = nth_value 0 v }) (nth_value 1 v) (cause_at (nth_value 2 v))
+    else if row == 3 then entry.Idle
+    else if row == 4 then entry.Copied (nth_value 0 v) (nth_value 1 v)
+    else if row == 5 then entry.Aged (nth_value 0 v)
+    else entry.Pong (record { 0 = nth_value 0 v }) (record { 0 = nth_value 1 v }) (nth_value 2 v)
 
 -- the entry of words, by their row
 unfoldable pub row_entry : Plan → List (List ℕ) → Option Entry

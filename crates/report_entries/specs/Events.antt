@@ -8,7 +8,7 @@ use Rattle.net_base.specs.declared.trace.event.Event.TheVariants as event
 use Rattle.command_text.specs.Planned.{names_of}
 use Rattle.command_text.specs.declared.plan_names.PlanNames.{PlanNames}
 use Rattle.report_text.specs.declared.choice.Choice.TheVariants.{Switch}
-use Rattle.line_shapes.specs.Shapes.{Form, form, line_said, told_by, value_at}
+use Rattle.line_shapes.specs.Shapes.{Form, form, line_said, told_by, nth_value}
 use Rattle.line_shapes.specs.declared.kind.Kind.TheVariants.{Edge, Circuit, Wire, Number, OneOf}
 use Rattle.report_entries.specs.Reading.{◌>>=◌, circuit_of_word, digits_told}
 
@@ -33,19 +33,19 @@ event_forms =
 -- the event of a row and its values
 abbrev pub event_made : ℕ → List ℕ → Event
 event_made row v =
-    if row == 0 then event.Deliver (record { 0 = value_at 0 v }) (record { 0 = value_at 1 v }) (value_at 2 v)
-    else if row == 1 then event.Arrive (value_at 0 v)
-    else if row == 2 then event.Discard (value_at 0 v)
-    else if row == 3 then event.Again (value_at 0 v)
-    else if row == 4 then event.Connect (record { 0 = value_at 0 v }) (record { 0 = value_at 1 v })
-    else if row == 5 then event.Lose (record { 0 = value_at 0 v }) (record { 0 = value_at 1 v })
-    else if row == 6 then event.Restart (record { 0 = value_at 0 v })
+    if row == 0 then event.Deliver (record { 0 = nth_value 0 v }) (record { 0 = nth_value 1 v }) (nth_value 2 v)
+    else if row == 1 then event.Arrive (nth_value 0 v)
+    else if row == 2 then event.Discard (nth_value 0 v)
+    else if row == 3 then event.Again (nth_value 0 v)
+    else if row == 4 then event.Connect (record { 0 = nth_value 0 v }) (record { 0 = nth_value 1 v })
+    else if row == 5 then event.Lose (record { 0 = nth_value 0 v }) (record { 0 = nth_value 1 v })
+    else if row == 6 then event.Restart (record { 0 = nth_value 0 v })
     else if row == 7 then event.Tick
-    else if row == 8 then event.Wire (record { 0 = value_at 0 v }) (record { 0 = value_at 1 v }) (value_at 2 v == 1)
-    else if row == 9 then event.Circuit (record { 0 = value_at 0 v }) (value_at 1 v == 1)
-    else if row == 10 then event.Status (record { 0 = value_at 0 v }) (record { 0 = value_at 1 v }) (value_at 2 v)
-    else if row == 11 then event.Priority (record { 0 = value_at 0 v }) (record { 0 = value_at 1 v }) (value_at 2 v)
-    else event.Ping (record { 0 = value_at 0 v }) (record { 0 = value_at 1 v })
+    else if row == 8 then event.Wire (record { 0 = nth_value 0 v }) (record { 0 = nth_value 1 v }) (nth_value 2 v == 1)
+    else if row == 9 then event.Circuit (record { 0 = nth_value 0 v }) (nth_value 1 v == 1)
+    else if row == 10 then event.Status (record { 0 = nth_value 0 v }) (record { 0 = nth_value 1 v }) (nth_value 2 v)
+    else if row == 11 then event.Priority (record { 0 = nth_value 0 v }) (record { 0 = nth_value 1 v }) (nth_value 2 v)
+    else event.Ping (record { 0 = nth_value 0 v }) (record { 0 = nth_value 1 v })
 
 -- the event of words, by their row
 unfoldable pub row_event : Plan → List (List ℕ) → Option Event

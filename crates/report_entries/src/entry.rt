@@ -1,7 +1,7 @@
 //! The entries that lines tell.
 ghost use Rattle.std.specs.Prelude.{◌≡◌, ◌<◌, map};
 ghost use Rattle.command_text.specs.Planned.{names_of};
-ghost use Rattle.line_shapes.specs.Shapes.{AreFit, AreSmall, form_at, form_of};
+ghost use Rattle.line_shapes.specs.Shapes.{AreValuesOf, AreSmall, form_at, form_of};
 ghost use Rattle.report_entries.specs.Entries.{did_in, entered_in, entry_forms, entry_made, left_in, row_entry, said_in, sent_in, words_entry};
 ghost use Rattle.report_entries.specs.Reading.{Reads};
 
@@ -118,10 +118,10 @@ fn entry_shapes() -> &'static [Shape<'static>]
     ensures { map form_of result.now ≡ entry_forms }
 {
     &[
-        Shape(b"idle", &[]),
         Shape(b"session", &[Edge, Edge, OneOf(State)]),
         Shape(b"wire", &[Edge, Wire, OneOf(End)]),
         Shape(b"dropped", &[Edge, Number(0, u64::MAX), OneOf(Cause)]),
+        Shape(b"idle", &[]),
         Shape(b"copied", &[Number(0, u64::MAX), Number(0, u64::MAX)]),
         Shape(b"aged", &[Number(0, u64::MAX)]),
         Shape(b"pong", &[Edge, Wire, Number(0, 65535)]),
@@ -131,27 +131,27 @@ fn entry_shapes() -> &'static [Shape<'static>]
 // The entry of a row and its values.
 fn entry_made(plan: &Plan, row: usize, values: &Values) -> Entry
     requires row { row < 7 }
-    requires fit { AreFit plan.now (form_at entry_forms row).kinds values.now }
+    requires fit { AreValuesOf plan.now (form_at entry_forms row).kinds values.now }
     requires small { AreSmall (form_at entry_forms row).kinds values.now }
     ensures { result ≡ entry_made row values.now }
 {
     match row {
-        0 => Entry::Idle,
-        1 => Entry::Session {
+        0 => Entry::Session {
             edge: values.edge(0),
             peer: values.edge(1),
             state: state_at(values.at(2)),
         },
-        2 => Entry::Wire {
+        1 => Entry::Wire {
             edge: values.edge(0),
             wire: values.wire(1),
             down: end_at(values.at(2)),
         },
-        3 => Entry::Dropped {
+        2 => Entry::Dropped {
             edge: values.edge(0),
             origin: values.at(1),
             cause: cause_at(values.at(2)),
         },
+        3 => Entry::Idle,
         4 => Entry::Copied {
             packet: values.at(0),
             of: values.at(1),

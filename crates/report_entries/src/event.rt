@@ -1,7 +1,7 @@
 //! The events that lines tell.
 ghost use Rattle.std.specs.Prelude.{◌≡◌, ◌<◌, map};
 ghost use Rattle.command_text.specs.Planned.{names_of};
-ghost use Rattle.line_shapes.specs.Shapes.{AreFit, AreSmall, form_at, form_of};
+ghost use Rattle.line_shapes.specs.Shapes.{AreValuesOf, AreSmall, form_at, form_of};
 ghost use Rattle.report_entries.specs.Events.{event_forms, event_made, event_told, frame_told, row_event};
 ghost use Rattle.report_entries.specs.Reading.{Reads};
 
@@ -39,7 +39,7 @@ fn event_shapes() -> &'static [Shape<'static>]
 // The event of a row and its values.
 fn event_made(plan: &Plan, row: usize, values: &Values) -> Event
     requires row { row < 13 }
-    requires fit { AreFit plan.now (form_at event_forms row).kinds values.now }
+    requires fit { AreValuesOf plan.now (form_at event_forms row).kinds values.now }
     requires small { AreSmall (form_at event_forms row).kinds values.now }
     ensures { result ≡ event_made row values.now }
 {

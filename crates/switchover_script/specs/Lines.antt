@@ -1,7 +1,7 @@
 -- The lines of a script of independent mode (RFC 6870 section 4): a row for each, the line that its values make, and the values of a line.
 use Rattle.std.specs.Prelude.{◌==◌, codes, ℕ, List, [], ◌∷◌, Result, if◌then◌else◌}
 use Rattle.net_base.specs.declared.plan.Plan.{Plan}
-use Rattle.line_shapes.specs.Shapes.{Form, form, line_said, value_at}
+use Rattle.line_shapes.specs.Shapes.{Form, form, line_said, nth_value}
 use Rattle.line_shapes.specs.declared.kind.Kind.TheVariants.{Edge, Between, Number}
 use Rattle.status_exchange.specs.declared.wish.Wish.TheVariants.{Active, Standby, Ask}
 use Rattle.script_text.specs.declared.script_fault.ScriptFault.{ScriptFault}
@@ -25,11 +25,11 @@ switch_forms =
 -- the line of a row and its values
 abbrev pub switch_made : ℕ → List ℕ → SwitchLine
 switch_made row v =
-    if row == 0 then Connect (record { 0 = value_at 0 v }) (record { 0 = value_at 1 v })
-    else if row == 1 then Cut (record { 0 = value_at 0 v }) (record { 0 = value_at 1 v })
-    else if row == 2 then Deliver (record { 0 = value_at 0 v }) (record { 0 = value_at 1 v }) (value_at 2 v)
-    else if row == 3 then Settle (value_at 0 v)
-    else Set (record { 0 = value_at 0 v }) (record { 0 = value_at 1 v }) (if row == 4 then Active else if row == 5 then Standby else Ask)
+    if row == 0 then Connect (record { 0 = nth_value 0 v }) (record { 0 = nth_value 1 v })
+    else if row == 1 then Cut (record { 0 = nth_value 0 v }) (record { 0 = nth_value 1 v })
+    else if row == 2 then Deliver (record { 0 = nth_value 0 v }) (record { 0 = nth_value 1 v }) (nth_value 2 v)
+    else if row == 3 then Settle (nth_value 0 v)
+    else Set (record { 0 = nth_value 0 v }) (record { 0 = nth_value 1 v }) (if row == 4 then Active else if row == 5 then Standby else Ask)
 
 -- the row of a line, and its values
 abbrev pub switch_apart : SwitchLine → ℕ × List ℕ

@@ -1,7 +1,7 @@
 //! The lines of a script.
 ghost use Rattle.std.specs.Prelude.{◌≡◌, ◌<◌, ◌≤◌, length, map, IfOk};
 ghost use Rattle.command_text.specs.Planned.{names_of};
-ghost use Rattle.line_shapes.specs.Shapes.{AreFit, AreSmall, form_at, form_of, value_at};
+ghost use Rattle.line_shapes.specs.Shapes.{AreValuesOf, AreSmall, form_at, form_of, nth_value};
 ghost use Rattle.switchover_model.specs.Planned.{IsLineOf};
 ghost use Rattle.switchover_script.specs.Lines.{switch_apart, switch_forms, switch_line_of, switch_made};
 
@@ -33,16 +33,16 @@ pub fn switch_shapes() -> &'static [Shape<'static>]
 pub fn switch_shape(row: usize) -> Shape<'static>
     requires { row < 7 }
     ensures form { form_of result ≡ form_at switch_forms row }
-    ensures short { length result.1.now ≤ 8 }
+    ensures short { length result.1.now ≤ 3 }
 {
     shape_at(switch_shapes(), row)
 }
 
 // What an edge calls a wire from now on.
 fn set(values: &Values, wish: Wish) -> SwitchLine
-    requires edge { value_at 0 values.now < 65536 }
-    requires wire { value_at 1 values.now < 65536 }
-    ensures { result ≡ SwitchLine.Set (record { 0 = value_at 0 values.now }) (record { 0 = value_at 1 values.now }) wish }
+    requires edge { nth_value 0 values.now < 65536 }
+    requires wire { nth_value 1 values.now < 65536 }
+    ensures { result ≡ SwitchLine.Set (record { 0 = nth_value 0 values.now }) (record { 0 = nth_value 1 values.now }) wish }
 {
     SwitchLine::Set {
         edge: values.edge(0),
@@ -54,7 +54,7 @@ fn set(values: &Values, wish: Wish) -> SwitchLine
 // The line of a row and its values.
 fn made(plan: &Plan, row: usize, values: &Values) -> SwitchLine
     requires row { row < 7 }
-    requires fit { AreFit plan.now (form_at switch_forms row).kinds values.now }
+    requires fit { AreValuesOf plan.now (form_at switch_forms row).kinds values.now }
     requires small { AreSmall (form_at switch_forms row).kinds values.now }
     ensures exact { result ≡ switch_made row values.now }
     ensures planned { IsLineOf plan.now result }

@@ -1,7 +1,7 @@
 -- The report of a script of independent mode (RFC 6870 section 4).
 use Rattle.std.specs.Prelude.{◌++◌, ℕ, codes, Bool, true, false, List, [], ◌∷◌, length}
 use Rattle.std.specs.Fmt.{decimal}
-use Rattle.line_shapes.specs.Shapes.{form_at, line_words}
+use Rattle.line_shapes.specs.Shapes.{form_at, row_words}
 use Rattle.net_base.specs.declared.plan.Plan.{Plan}
 use Rattle.report_text.specs.Words.{edge_name, wire_name}
 use Rattle.switchover_model.specs.Network.{first_network}
@@ -17,7 +17,7 @@ use Rattle.text_pieces.specs.Pieces.{hex}
 
 -- a line with the words of its row
 abbrev pub done_line : Plan → SwitchLine → List ℕ
-done_line plan line = line_of (codes ">" ∷ line_words plan (form_at switch_forms (switch_apart line).0) (switch_apart line).1)
+done_line plan line = line_of (codes ">" ∷ row_words plan (form_at switch_forms (switch_apart line).0) (switch_apart line).1)
 
 -- ---- what is told of them
 

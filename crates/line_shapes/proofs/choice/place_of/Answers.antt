@@ -1,5 +1,4 @@
 -- The place among the words is the one among their octets.
-use denote.Ref.{Bor}
 use Rattle.std.proofs.Common.{◌∙◌, ℕ, List, ap}
 use Rattle.command_text.specs.Names.{place_in}
 use Rattle.line_shapes.proofs.RowLemmas.{place_is}

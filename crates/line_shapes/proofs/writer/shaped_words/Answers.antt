@@ -8,7 +8,7 @@ use Rattle.line_shapes.proofs.writer.shaped_words.Goals as goal
 
 pub loop-place-init : goal.loop-place-init
 loop-place-init c =
-    let size : length c.args.room.now ≡ 9 = search rules in (
+    let size : length c.args.room.now ≡ 4 = search rules in (
       words_first c.args.room.now (Text c.args.shape.0) (value_words c.args.plan.now c.args.shape.1.now c.args.values.now) (omega (arith, size)),
       refl,
       length-set c.args.room.now 0 (Text c.args.shape.0) ∙ size,
