@@ -1,8 +1,9 @@
 -- The frames that entered.
-use Rattle.std.specs.Prelude.{◌≡◌, ◌<◌, ◌==◌, ◌&&◌, ◌||◌, ◌++◌, ℕ, Bool, false, List, [], ◌∷◌, Option, Some, None, slice_get, if◌then◌else◌}
+use Rattle.std.specs.Prelude.{◌≡◌, ◌≤◌, ◌<◌, ◌+◌, ◌==◌, ◌&&◌, ◌||◌, ◌++◌, ℕ, Bool, false, List, [], ◌∷◌, Option, Some, None, length, take, drop, option_map, slice_get, if◌then◌else◌}
 use Rattle.std.specs.List.{list_any}
 use Rattle.std.specs.Str.{bytes_eq}
 use Rattle.seen_state.specs.Numbered.{Values, value_at}
+use Rattle.trace_audit.specs.declared.arrivals.First.{First}
 use Rattle.trace_audit.specs.declared.entered_frame.EnteredFrame.{EnteredFrame}
 
 -- a frame without the tag of its circuit, with its number and its service
@@ -27,29 +28,44 @@ has_come came one = list_any (is_entered one) came
 abbrev pub with_came : List Entered → Entered → List Entered
 with_came came one = if has_come came one then came else came ++ one ∷ []
 
--- the frames that entered: the first ones of their numbers, by the places that their numbers tell, and the others
+-- the frames that entered: the first ones of their numbers, by the places that their numbers tell, with their octets, and the others
 pub record ArrivalLists : Type 0 where
   pub places : Values ℕ
-  pub firsts : List EnteredFrame
+  pub firsts : List First
+  pub octets : List ℕ
   pub others : List EnteredFrame
 
 -- each place is one of so many
 abbrev pub ArePlaced : Values ℕ → ℕ → Type 0
 ArePlaced places count = (number place : ℕ) → value_at places number ≡ Some place → place < count
 
+-- each of these frames stands among so many octets
+abbrev pub AreInside : List First → ℕ → Type 0
+AreInside [] count = Unit {0}
+AreInside (first ∷ firsts) count = (first.at + first.len ≤ count) × AreInside firsts count
+
+-- each place is one of a frame, which stands among so many octets
+pub record ArePlacedInside (places : Values ℕ) (firsts : List First) (count : ℕ) : Type 0 where
+  pub placed : ArePlaced places (length firsts)
+  pub inside : AreInside firsts count
+
+-- the frame as it is known in its service, where its octets are among these
+abbrev pub frame_in : List ℕ → First → Entered
+frame_in octets first = record { number = first.number; service = first.service; frame = take first.len (drop first.at octets) }
+
 -- the frame at a place, where one is told
-abbrev pub came_at : List EnteredFrame → Option ℕ → Option EnteredFrame
-came_at firsts None = None
-came_at firsts (Some place) = slice_get firsts place
+abbrev pub first_at : List First → Option ℕ → Option First
+first_at firsts None = None
+first_at firsts (Some place) = slice_get firsts place
 
 -- the first frame that entered under the number
-abbrev pub first_under : ArrivalLists → ℕ → Option EnteredFrame
-first_under arrivals number = came_at arrivals.firsts (value_at arrivals.places number)
+abbrev pub first_under : ArrivalLists → ℕ → Option Entered
+first_under arrivals number = option_map (frame_in arrivals.octets) (first_at arrivals.firsts (value_at arrivals.places number))
 
 -- the frame is that one
-abbrev pub is_first : Entered → Option EnteredFrame → Bool
+abbrev pub is_first : Entered → Option Entered → Bool
 is_first one None = false
-is_first one (Some kept) = is_entered one (entered_of kept)
+is_first one (Some kept) = is_entered one kept
 
 -- the frame is one of those that entered under numbers that others had
 abbrev pub has_other : List EnteredFrame → Entered → Bool

@@ -1,34 +1,45 @@
 //! The frames that entered, found by their numbers.
-ghost use Rattle.std.specs.Prelude.{◌≡◌, ◌++◌, [], List, true, false, is_some, option_copied, OnOk};
+ghost use Rattle.std.specs.Prelude.{◌≡◌, ◌==◌, ◌≤◌, ◌<◌, ◌+◌, ◌++◌, ◌∷◌, [], ℕ, List, Some, false, length, take, drop, suc, is_some, OnOk, true, if◌then◌else◌};
 ghost use Rattle.seen_state.specs.Numbered.{value_at};
-ghost use Rattle.trace_audit.specs.Arrivals.{Entered, TellsArrivals, entered_of, first_under, has_come, has_other, is_entered, is_first, with_came};
+ghost use Rattle.trace_audit.specs.Arrivals.{ArePlaced, ArePlacedInside, Entered, TellsArrivals, entered_of, first_at, first_under, frame_in};
+ghost use Rattle.trace_audit.specs.Arrivals.{has_come, has_other, is_entered, is_first, with_came};
 
-use crate::entered_frame::EnteredFrame;
+use crate::entered_frame::{EnteredFrame, joined};
 use net_base::NoMemory;
 use seen_state::Numbered;
 use std::alloc::Global;
 use std::collections::BTreeSet;
 use std::marker::Model;
 
+/// The first frame that entered under a number: its service, and where its octets stand among those of all such frames.
+#[derive(Clone, Copy)]
+pub struct First {
+    pub number: u64,
+    pub at: u64,
+    pub len: u32,
+    pub service: u16,
+}
+
 /// The frames that entered. The first one under a number is found at the place that its number tells, or in logarithmic time where
 /// numbers do not rise one by one; others that a report gives the same number stand in an order. What is compared is what was found: no
-/// choice of octets makes a frame dear to find.
+/// choice of octets makes a frame dear to find. The octets of the first ones stand one behind the other, so that a frame costs few more.
 #[derive(Drop)]
 pub struct Arrivals {
     places: Numbered<u64>,
-    firsts: Vec<EnteredFrame>,
+    firsts: Vec<First>,
+    octets: Vec<u8>,
     others: BTreeSet<EnteredFrame>,
 }
 
 impl Model for Arrivals {
     ghost use Rattle.std.specs.Prelude.{length};
-    ghost use Rattle.trace_audit.specs.Arrivals.{ArePlaced, ArrivalLists};
+    ghost use Rattle.trace_audit.specs.Arrivals.{ArrivalLists, ArePlacedInside};
 
     ghost Value = { ArrivalLists };
 
-    ghost view = { λ a. record { places = a.places; firsts = a.firsts.items; others = a.others.keys } };
+    ghost view = { λ a. record { places = a.places; firsts = a.firsts.items; octets = a.octets.items; others = a.others.keys } };
 
-    ghost invariant = { λ a. ArePlaced a.places (length a.firsts.items) };
+    ghost invariant = { λ a. ArePlacedInside a.places a.firsts.items (length a.octets.items) };
 }
 
 impl Arrivals {
@@ -40,18 +51,30 @@ impl Arrivals {
         Arrivals {
             places: Numbered::new(alloc),
             firsts: Vec::new(alloc),
+            octets: Vec::new(alloc),
             others: BTreeSet::new(alloc),
         }
     }
 
     // The first frame that entered under a number.
-    fn first(&self, number: u64) -> Option<&EnteredFrame>
-        ensures { option_copied result ≡ first_under self.now number }
+    fn first(&self, number: u64) -> Option<First>
+        ensures { result ≡ first_at self.now.firsts (value_at self.now.places number) }
     {
         match self.places.get(number) {
-            Some(place) => self.firsts.get(place as usize),
+            Some(place) => self.firsts.get(place as usize).copied(),
             None => None,
         }
+    }
+
+    // The octets of the first frame under a number.
+    #[tactic(auto, using(crate::proofs::ArrivalLemmas::at_within, crate::proofs::ArrivalLemmas::len_within))]
+    fn frame(&self, number: u64, first: First) -> &[u8]
+        requires { first_at self.now.firsts (value_at self.now.places number) ≡ Some first }
+        ensures { result.now ≡ take first.len (drop first.at self.now.octets) }
+    {
+        let (_, rest) = self.octets.as_slice().split_at(first.at as usize);
+        let (frame, _) = rest.split_at(first.len as usize);
+        frame
     }
 
     /// Whether this frame entered under its number, in its service.
@@ -66,9 +89,19 @@ impl Arrivals {
         ensures { result ≡ is_first (entered_of came.now) (first_under self.now came.now.number) }
     {
         match self.first(came.number) {
-            Some(kept) => is_same(came, kept),
+            Some(first) => self.is_same(first, came),
             None => false,
         }
+    }
+
+    // Whether both are one frame in one service under one number.
+    fn is_same(&self, first: First, came: &EnteredFrame) -> bool
+        requires { first_at self.now.firsts (value_at self.now.places came.now.number) ≡ Some first }
+        ensures { result ≡ is_entered (entered_of came.now) (frame_in self.now.octets first) }
+    {
+        came.number == first.number
+            && (came.service == first.service
+                && came.frame.as_slice() == self.frame(came.number, first))
     }
 
     // Whether it is one of the others.
@@ -85,19 +118,42 @@ impl Arrivals {
         ensures { (known : List Entered) → TellsArrivals self.now known → result ≡ true → has_come known (record { number = number; service = service; frame = front.now ++ back.now }) ≡ true }
     {
         match self.first(number) {
-            Some(kept) => is_came(kept, number, service, front, back),
+            Some(first) => self.is_of(first, number, service, front, back),
             None => false,
         }
     }
 
-    /// A frame entered.
-    pub fn add(&mut self, came: EnteredFrame) -> Result<(), NoMemory>
-        ensures { OnOk result ((known : List Entered) → TellsArrivals self.old known → TellsArrivals self.new (with_came known (entered_of came))) }
+    // Whether a frame has this number, this service and these two parts.
+    fn is_of(&self, first: First, number: u64, service: u16, front: &[u8], back: &[u8]) -> bool
+        requires { first_at self.now.firsts (value_at self.now.places number) ≡ Some first }
+        ensures { result ≡ true → frame_in self.now.octets first ≡ record { number = number; service = service; frame = front.now ++ back.now } }
     {
-        if self.has_number(came.number) {
+        first.number == number
+            && first.service == service
+            && are_parts(front, back, self.frame(number, first))
+    }
+
+    /// A frame entered, which is told in two parts.
+    pub fn add(
+        &mut self,
+        alloc: Global,
+        number: u64,
+        service: u16,
+        front: &[u8],
+        back: &[u8],
+    ) -> Result<(), NoMemory>
+        ensures { OnOk result ((known : List Entered) → TellsArrivals self.old known → TellsArrivals self.new (with_came known (record { number = number; service = service; frame = front.now ++ back.now }))) }
+    {
+        if self.has_number(number) || (front.len() > 0xffff || back.len() > 0xffff) {
+            let frame = joined(alloc, front, back)?;
+            let came = EnteredFrame {
+                number,
+                service,
+                frame,
+            };
             self.add_other(came)
         } else {
-            self.add_first(came)
+            self.add_first(number, service, front, back)
         }
     }
 
@@ -109,13 +165,84 @@ impl Arrivals {
     }
 
     // A frame entered, the first one under its number.
-    #[tactic(auto, using(crate::proofs::ArrivalLemmas::first_added, crate::proofs::ArrivalLemmas::first_placed))]
-    fn add_first(&mut self, came: EnteredFrame) -> Result<(), NoMemory>
-        requires { is_some (value_at self.old.places came.number) ≡ false }
-        ensures { OnOk result ((known : List Entered) → TellsArrivals self.old known → TellsArrivals self.new (with_came known (entered_of came))) }
+    fn add_first(
+        &mut self,
+        number: u64,
+        service: u16,
+        front: &[u8],
+        back: &[u8],
+    ) -> Result<(), NoMemory>
+        requires front { length front.now < 65536 }
+        requires back { length back.now < 65536 }
+        requires new { is_some (value_at self.old.places number) ≡ false }
+        ensures { OnOk result ((known : List Entered) → TellsArrivals self.old known → TellsArrivals self.new (with_came known (record { number = number; service = service; frame = front.now ++ back.now }))) }
     {
-        let (number, place) = (came.number, self.firsts.len() as u64);
-        self.firsts.push(came)?;
+        let place = self.next_place();
+        let first = self.next_first(number, service, front, back);
+        self.push_octets(front)?;
+        self.push_octets(back)?;
+        self.push_first(first)?;
+        self.place(number, place)
+    }
+
+    // How many first frames there are.
+    fn next_place(&self) -> u64
+        ensures { result ≡ length self.now.firsts }
+    {
+        self.firsts.len() as u64
+    }
+
+    // A frame of which the octets are to stand behind all others.
+    fn next_first(&self, number: u64, service: u16, front: &[u8], back: &[u8]) -> First
+        requires front { length front.now < 65536 }
+        requires back { length back.now < 65536 }
+        ensures number { result.number ≡ number }
+        ensures at { result.at ≡ length self.now.octets }
+        ensures len { result.len ≡ length front.now + length back.now }
+        ensures service { result.service ≡ service }
+        ensures inside { ArePlacedInside self.now.places self.now.firsts (length self.now.octets) }
+    {
+        First {
+            number,
+            at: self.octets.len() as u64,
+            len: (front.len() + back.len()) as u32,
+            service,
+        }
+    }
+
+    // Octets more, which are none of a frame yet.
+    fn push_octets(&mut self, octets: &[u8]) -> Result<(), NoMemory>
+        ensures places { self.new.places ≡ self.old.places }
+        ensures firsts { self.new.firsts ≡ self.old.firsts }
+        ensures octets { OnOk result (self.new.octets ≡ self.old.octets ++ octets.now) }
+        ensures others { self.new.others ≡ self.old.others }
+    {
+        self.octets.extend_from_slice(octets)?;
+        Ok(())
+    }
+
+    // A frame more, which no number names yet.
+    fn push_first(&mut self, first: First) -> Result<(), NoMemory>
+        requires { first.at + first.len ≤ length self.old.octets }
+        ensures places { self.new.places ≡ self.old.places }
+        ensures firsts { OnOk result (self.new.firsts ≡ self.old.firsts ++ first ∷ []) }
+        ensures octets { self.new.octets ≡ self.old.octets }
+        ensures others { self.new.others ≡ self.old.others }
+    {
+        self.firsts.push(first)?;
+        Ok(())
+    }
+
+    // A number names the last frame.
+    #[tactic(auto, using(crate::proofs::ArrivalLemmas::number_placed, crate::proofs::ArrivalLemmas::number_kept))]
+    fn place(&mut self, number: u64, place: u64) -> Result<(), NoMemory>
+        requires placed { ArePlaced self.old.places place }
+        requires last { length self.old.firsts ≡ suc place }
+        ensures places { OnOk result ((n : ℕ) → value_at self.new.places n ≡ (if n == number then Some place else value_at self.old.places n)) }
+        ensures firsts { self.new.firsts ≡ self.old.firsts }
+        ensures octets { self.new.octets ≡ self.old.octets }
+        ensures others { self.new.others ≡ self.old.others }
+    {
         self.places.put(number, place)
     }
 
@@ -126,23 +253,6 @@ impl Arrivals {
         self.others.insert(came)?;
         Ok(())
     }
-}
-
-// Whether both are one frame in one service under one number.
-fn is_same(came: &EnteredFrame, kept: &EnteredFrame) -> bool
-    ensures { result ≡ is_entered (entered_of came.now) (entered_of kept.now) }
-{
-    came.number == kept.number
-        && (came.service == kept.service && came.frame.as_slice() == kept.frame.as_slice())
-}
-
-// Whether a frame that entered has this number, this service and these two parts.
-fn is_came(kept: &EnteredFrame, number: u64, service: u16, front: &[u8], back: &[u8]) -> bool
-    ensures { result ≡ true → entered_of kept.now ≡ record { number = number; service = service; frame = front.now ++ back.now } }
-{
-    kept.number == number
-        && kept.service == service
-        && are_parts(front, back, kept.frame.as_slice())
 }
 
 // Whether a frame is seen to have these two parts.

@@ -5,7 +5,7 @@ ghost use Rattle.trace_audit.specs.Judged.{Judged, KnowsJudged, begun, came_afte
 ghost use Rattle.trace_audit.specs.Arrivals.{Entered, TellsArrivals, entered_of};
 
 use crate::arrivals::Arrivals;
-use crate::entered_frame::EnteredFrame;
+use crate::entered_frame::{EnteredFrame, joined};
 use eth_encap::inner_parts;
 use net_base::{Arrival, CircuitId, Class, EdgeId, Entry, NoMemory, Plan, ServiceId, WireId};
 use std::alloc::Global;
@@ -45,16 +45,6 @@ fn inner_octets(
         },
         Err(_) => Ok(None),
     }
-}
-
-// Two parts in one piece.
-fn joined(alloc: Global, front: &[u8], back: &[u8]) -> Result<Vec<u8>, NoMemory>
-    ensures { IfOk result (λ octets. octets.items ≡ front.now ++ back.now) }
-{
-    let mut octets = Vec::with_capacity(alloc, front.len() + back.len())?;
-    octets.extend_from_slice(front)?;
-    octets.extend_from_slice(back)?;
-    Ok(octets)
 }
 
 // The service of a circuit.
@@ -162,10 +152,15 @@ fn keep(
 ) -> Result<(), NoMemory>
     ensures { OnOk result ((known : List Entered) → TellsArrivals came.old known → TellsArrivals came.new (with_one known (entered_at plan.now circuit number octets.now))) }
 {
-    match came_at(alloc, plan, circuit, number, octets) {
-        Ok(Some(one)) => came.add(one),
-        Ok(None) => Ok(()),
-        Err(NoMemory) => Err(NoMemory),
+    let Some(row) = plan.circuits.get(circuit.0 as usize) else {
+        return Ok(());
+    };
+    let Some(service) = plan.services.get(row.service.0 as usize) else {
+        return Ok(());
+    };
+    match inner_parts(row.tag, service.mtu, octets) {
+        Ok((front, back)) => came.add(alloc, number, row.service.0, front, back),
+        Err(_) => Ok(()),
     }
 }
 
