@@ -67,7 +67,7 @@ impl DiscoveryNet {
     ///
     /// `TooMuch` and `Crowded` where a limit of the network stops one of its events; what was done before that event stands. `NoMemory`
     /// where memory was refused; the network is then given up.
-    pub fn take(&mut self, alloc: Global, line: ScriptLine) -> Result<(), NetStop>
+    pub fn apply_line(&mut self, alloc: Global, line: ScriptLine) -> Result<(), NetStop>
         requires planned { IsDiscoveryLineOf self.old.network.plan line }
         requires going { self.old.network.failed ≡ false }
         ensures plan { self.new.network.plan ≡ self.old.network.plan }
@@ -76,9 +76,9 @@ impl DiscoveryNet {
         ensures after { (d : Discovery) → IsAt d self.old → OnOk result (IsAt (after_line self.old.network.plan d line) self.new) }
     {
         match line {
-            ScriptLine::Hello { from, to, hold } => self.hello(from, to, hold),
+            ScriptLine::Hello { from, to, hold } => self.send_hello(from, to, hold),
             ScriptLine::Bring { number } => self.bring(alloc, number),
-            ScriptLine::Open { from, to } => self.connect(alloc, from, to),
+            ScriptLine::Open { from, to } => self.open_connection(alloc, from, to),
             ScriptLine::Tick => self.tick(alloc),
             ScriptLine::Do(command) => self.command(alloc, command),
         }

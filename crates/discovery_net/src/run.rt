@@ -40,7 +40,7 @@ pub fn run_script(
         Err(fault) => return Err(fault),
     };
     for line in lines.into_items() {
-        match net.take(alloc, line) {
+        match net.apply_line(alloc, line) {
             Ok(()) => {}
             Err(NetStop::NoMemory) => return Err(NoMemory),
             Err(stop) => return Ok(DiscoveryRun {

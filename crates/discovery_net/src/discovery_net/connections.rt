@@ -17,7 +17,12 @@ use std::alloc::Global;
 impl DiscoveryNet {
     // A connection opens between two edges that a segment joins, where the adjacencies of both live.
     #[tactic(auto, using(crate::proofs::LineLemmas::open_idle_acts, crate::proofs::LineLemmas::open_idle_after, crate::proofs::LineLemmas::open_done_acts, crate::proofs::LineLemmas::open_done_after, crate::proofs::LineLemmas::open_barred_acts, crate::proofs::LineLemmas::open_barred_after))]
-    pub(crate) fn connect(&mut self, alloc: Global, from: EdgeId, to: EdgeId) -> Result<(), NetStop>
+    pub(crate) fn open_connection(
+        &mut self,
+        alloc: Global,
+        from: EdgeId,
+        to: EdgeId,
+    ) -> Result<(), NetStop>
         requires planned { AreOfPlan self.old.network.plan from to }
         requires going { self.old.network.failed ≡ false }
         ensures plan { self.new.network.plan ≡ self.old.network.plan }

@@ -14,9 +14,9 @@ use psn_net::NetStop;
 use std::alloc::Global;
 
 impl DiscoveryNet {
-    // An edge says a Hello to another one, where a segment joins them.
+    // An edge sends a Hello to another one, where a segment joins them.
     #[tactic(auto, using(crate::proofs::LineLemmas::hello_idle_acts, crate::proofs::LineLemmas::hello_idle_after))]
-    pub(crate) fn hello(&mut self, from: EdgeId, to: EdgeId, hold: u16) -> Result<(), NetStop>
+    pub(crate) fn send_hello(&mut self, from: EdgeId, to: EdgeId, hold: u16) -> Result<(), NetStop>
         requires planned { AreOfPlan self.old.network.plan from to }
         requires going { self.old.network.failed ≡ false }
         ensures plan { self.new.network.plan ≡ self.old.network.plan }
@@ -25,7 +25,7 @@ impl DiscoveryNet {
         ensures after { (d : Discovery) → IsAt d self.old → OnOk result (IsAt (after_line self.old.network.plan d (ScriptLine.Hello from to hold)) self.new) }
     {
         if self.are_joined(from, to) {
-            self.say(from, to, hold)
+            self.send_to_neighbour(from, to, hold)
         } else {
             self.tell(Note::Idle)
         }
@@ -33,7 +33,7 @@ impl DiscoveryNet {
 
     // The same where a segment joins them.
     #[tactic(auto, using(crate::proofs::LineLemmas::said_discovery, crate::proofs::LineLemmas::has_said, crate::proofs::LineLemmas::hello_said_acts, crate::proofs::LineLemmas::hello_said_after, crate::proofs::LineLemmas::halted_anyhow))]
-    fn say(&mut self, from: EdgeId, to: EdgeId, hold: u16) -> Result<(), NetStop>
+    fn send_to_neighbour(&mut self, from: EdgeId, to: EdgeId, hold: u16) -> Result<(), NetStop>
         requires planned { AreOfPlan self.old.network.plan from to }
         requires joined { are_joined self.old.network.plan from.0 to.0 ≡ true }
         requires going { self.old.network.failed ≡ false }

@@ -16,11 +16,11 @@ loop-line-preserved c = (
   tt,
   tt,
   record {
-    plan = c.in-Ok-take.ensures.plan ∙ c.loop-line.invariant.2.plan;
-    going = c.in-Ok-take.ensures.going;
+    plan = c.in-Ok-apply_line.ensures.plan ∙ c.loop-line.invariant.2.plan;
+    going = c.in-Ok-apply_line.ensures.going;
     lines = All-rest (IsDiscoveryLineOf c.args.plan.now) c.in-Some.line c.next.new.self.rest.items c.loop-line.line-iterator.rest.items c.in-Some.ensures.steps.0 c.loop-line.invariant.2.lines;
-    way = way_next c.args.plan.now c.args.lines c.loop-line.line-iterator.rest.items c.next.new.self.rest.items c.in-Some.line c.loop-line.net c.take.new.self c.in-Some.ensures.steps.0 c.loop-line.invariant.2.plan
-        c.in-Ok-take.ensures.acts c.in-Ok-take.ensures.after c.loop-line.invariant.2.way;
+    way = way_next c.args.plan.now c.args.lines c.loop-line.line-iterator.rest.items c.next.new.self.rest.items c.in-Some.line c.loop-line.net c.apply_line.new.self c.in-Some.ensures.steps.0 c.loop-line.invariant.2.plan
+        c.in-Ok-apply_line.ensures.acts c.in-Ok-apply_line.ensures.after c.loop-line.invariant.2.way;
   },
 )
 
@@ -30,16 +30,16 @@ returns-in-Err-clause-standing c = holds_behind_each c.args.plan.now c.args.line
 pub returns-in-Err-NoMemory-clause-standing : goal.returns-in-Err-NoMemory-clause-standing
 returns-in-Err-NoMemory-clause-standing c = holds_behind_each c.args.plan.now c.args.lines c.requires.lines
 
-pub returns-in-Err-take : goal.returns-in-Err-take
-returns-in-Err-take c =
-    let halts : ended_at c.take.new.self (Some c.in-Err-take.stop) ≡ script_course c.args.plan.now c.args.lines =
-    way_stopped c.args.plan.now c.args.lines c.loop-line.line-iterator.rest.items c.next.new.self.rest.items c.in-Some.line c.loop-line.net c.take.new.self c.in-Err-take.stop c.in-Some.ensures.steps.0 c.loop-line.invariant.2.plan
-    (search rules) c.in-Err-take.ensures.acts c.loop-line.invariant.2.way in
+pub returns-in-Err-apply_line : goal.returns-in-Err-apply_line
+returns-in-Err-apply_line c =
+    let halts : ended_at c.apply_line.new.self (Some c.in-Err-apply_line.stop) ≡ script_course c.args.plan.now c.args.lines =
+    way_stopped c.args.plan.now c.args.lines c.loop-line.line-iterator.rest.items c.next.new.self.rest.items c.in-Some.line c.loop-line.net c.apply_line.new.self c.in-Err-apply_line.stop c.in-Some.ensures.steps.0 c.loop-line.invariant.2.plan
+    (search rules) c.in-Err-apply_line.ensures.acts c.loop-line.invariant.2.way in
     record {
-      plan = c.in-Err-take.ensures.plan ∙ c.loop-line.invariant.2.plan;
-      going = limit_going c.in-Err-take.stop c.take.new.self.network (search rules) c.in-Err-take.ensures.going;
+      plan = c.in-Err-apply_line.ensures.plan ∙ c.loop-line.invariant.2.plan;
+      going = limit_going c.in-Err-apply_line.stop c.apply_line.new.self.network (search rules) c.in-Err-apply_line.ensures.going;
       course = halts;
-      events = events_ran c.args.plan.now c.args.lines c.take.new.self (Some c.in-Err-take.stop) halts;
+      events = events_ran c.args.plan.now c.args.lines c.apply_line.new.self (Some c.in-Err-apply_line.stop) halts;
       standing = holds_behind_each c.args.plan.now c.args.lines c.requires.lines;
     }
 
