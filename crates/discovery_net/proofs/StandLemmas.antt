@@ -40,8 +40,7 @@ abbrev IsNoConnect : Event → Type 0
 IsNoConnect event = (a b : ℕ) → connects_them event a b ≡ false
 
 abbrev AreNoConnects : List Event → Type 0
-AreNoConnects [] = Unit {0}
-AreNoConnects (e ∷ es) = IsNoConnect e × AreNoConnects es
+AreNoConnects events = AllByRecursion IsNoConnect events
 
 stood_one : (plan : Plan) (network : NetworkState) (event : Event) (a b : ℕ) → IsNoConnect event → stands (step plan network event).state a b ≡ true → stands network a b ≡ true
 stood_one plan network event a b none is = by (come_by_connections plan network event a b is)
