@@ -3,7 +3,6 @@
 mod labels;
 mod pdus;
 mod rings;
-mod scripts;
 mod sessions;
 mod spokes;
 mod statuses;

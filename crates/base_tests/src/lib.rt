@@ -30,6 +30,8 @@ mod reports;
 #[cfg(test)]
 mod scenarios;
 #[cfg(test)]
+mod steps;
+#[cfg(test)]
 mod tables;
 #[cfg(test)]
 mod texts;

@@ -1,5 +1,6 @@
 //! Small plans, with faults that were found by hand.
 
+use crate::steps::{cut, number_of};
 use crate::words::is_told;
 use hvpls_spokes::role;
 use net_base::{
@@ -8,15 +9,6 @@ use net_base::{
 };
 use std::alloc::Global;
 use std::process::Abort;
-
-// The words before and behind the first blank.
-fn cut<'a>(rt: &impl Abort, words: &'a str) -> (&'a str, &'a str) {
-    words.split_once(' ').expect(rt, "two words")
-}
-
-fn number(rt: &impl Abort, digits: &str) -> u32 {
-    digits.parse::<u32>().ok().expect(rt, "a number")
-}
 
 fn class_of(word: &str) -> Class {
     if word == "mesh" {
@@ -80,7 +72,7 @@ fn wire(rt: &impl Abort, alloc: Global, words: &str) -> WirePlan {
         name: name(rt, text),
         service: ServiceId(0),
         class: class_of(class),
-        pw_id: number(rt, pw_id),
+        pw_id: number_of(rt, pw_id),
         near: offer(rt),
         far: offer(rt),
         priority: 100,

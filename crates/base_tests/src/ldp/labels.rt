@@ -1,6 +1,7 @@
 //! One label space through its calls: which numbers wait, rest and are given again, worked out by hand.
 ghost use Rattle.std.specs.Prelude.{◌≡◌, ◌≤◌, length};
 
+use crate::steps::{cut, event_of, number_of};
 use label_space::{LabelSpace, NoLabel};
 use net_base::{EdgeId, Label, NoMemory, SegKey, WireId};
 use std::alloc::Global;
@@ -8,21 +9,6 @@ use std::process::Abort;
 
 // More labels than are ever given here.
 const ROOM: u32 = 8400;
-
-// Two neighbours, with a segment to each.
-const B: EdgeId = EdgeId(1);
-
-const C: EdgeId = EdgeId(2);
-
-const TO_B: SegKey = SegKey {
-    wire: WireId(1),
-    segment: 0,
-};
-
-const TO_C: SegKey = SegKey {
-    wire: WireId(2),
-    segment: 0,
-};
 
 // A label space, and how many labels it gave, of which no more are owned.
 #[derive(Drop)]
@@ -33,6 +19,19 @@ struct Labels {
     ghost roomy: { space.room ≡ 8400 },
 }
 
+// The neighbour of this name, B or C.
+fn neighbour(name: &str) -> EdgeId {
+    EdgeId(if name == "C" { 2 } else { 1 })
+}
+
+// The segment to a neighbour.
+fn segment(peer: EdgeId) -> SegKey {
+    SegKey {
+        wire: WireId(peer.0),
+        segment: 0,
+    }
+}
+
 impl Labels {
     // Its first number is this one.
     fn open(rt: &impl Abort, alloc: Global, first: u32) -> Result<Labels, NoMemory> {
@@ -41,218 +40,266 @@ impl Labels {
         Ok(Labels { space, owned: 0 })
     }
 
-    // The number that an end of the segment gets.
+    // The number that the end towards a neighbour gets.
     #[tactic(auto, using(label_space::proofs::HeldLemmas::long_issued))]
-    fn issue(&mut self, rt: &impl Abort, key: SegKey, peer: EdgeId) -> Result<u32, NoLabel> {
+    fn issue(&mut self, rt: &impl Abort, peer: EdgeId) -> Result<u32, NoLabel> {
         assert!(rt; self.owned < ROOM);
         self.owned += 1;
-        Ok(self.space.issue(key, 1, peer)?.number())
+        Ok(self.space.issue(segment(peer), 1, peer)?.number())
     }
 
-    // The end towards B gets this number.
-    fn gives(&mut self, rt: &impl Abort, number: u32) {
-        assert!(rt; self.space.has_number());
-        assert!(rt; self.issue(rt, TO_B, B) == Ok(number));
-        self.is_owned(rt, number, Some((TO_B, 1)));
+    // Whether the label with this number is owned so.
+    fn is_owned(&self, rt: &impl Abort, number: u32, owner: Option<(SegKey, u8)>) -> bool {
+        self.space.owner(Label::new(number).expect(rt, "a label")) == owner
     }
 
-    // The end towards C gets this number.
-    fn gives_to_c(&mut self, rt: &impl Abort, number: u32) {
-        assert!(rt; self.issue(rt, TO_C, C) == Ok(number));
-        self.is_owned(rt, number, Some((TO_C, 1)));
+    // Whether the end towards a neighbour gets this number, and owns it.
+    fn gives(&mut self, rt: &impl Abort, peer: EdgeId, number: u32) -> bool {
+        self.space.has_number()
+            && self.issue(rt, peer) == Ok(number)
+            && self.is_owned(rt, number, Some((segment(peer), 1)))
     }
 
-    // No number is left to be given.
-    fn has_none(&mut self, rt: &impl Abort) {
-        assert!(rt; !self.space.has_number());
-        assert!(rt; self.issue(rt, TO_C, C) == Err(NoLabel));
+    // Whether no number is left to be given to the end towards a neighbour.
+    fn has_none(&mut self, rt: &impl Abort, peer: EdgeId) -> bool {
+        !self.space.has_number() && self.issue(rt, peer) == Err(NoLabel)
     }
 
-    // The label with this number is owned so.
-    fn is_owned(&self, rt: &impl Abort, number: u32, owner: Option<(SegKey, u8)>) {
-        let label = Label::new(number).expect(rt, "a label");
-        assert!(rt; self.space.owner(label) == owner);
+    // Whether the end towards a neighbour gets the numbers from one to another in turn.
+    fn gives_all(&mut self, rt: &impl Abort, peer: EdgeId, (first, last): (u32, u32)) -> bool {
+        let mut agrees = true;
+        for number in first..last.saturating_add(1) {
+            agrees = agrees && self.gives(rt, peer, number);
+        }
+        agrees
     }
 
-    // The end that owns it lets it go.
+    // Whether the end towards a neighbour gets these numbers in turn, or none.
+    fn gives_words(&mut self, rt: &impl Abort, words: &str) -> bool {
+        let (peer, numbers) = cut(rt, words);
+        if numbers == "none" {
+            return self.has_none(rt, neighbour(peer));
+        }
+        self.gives_all(rt, neighbour(peer), range_of(rt, numbers))
+    }
+
+    // The end that owns the label with this number lets it go; whether none owns it then.
     #[tactic(auto, using(label_space::proofs::HeldLemmas::long_freed))]
-    fn free(&mut self, rt: &impl Abort, number: u32) {
+    fn loses(&mut self, rt: &impl Abort, number: u32) -> bool {
         self.space.free(Label::new(number).expect(rt, "a label"));
-        self.is_owned(rt, number, None);
+        self.is_owned(rt, number, None)
+    }
+
+    // The same of the numbers from one down to another, in turn.
+    fn loses_all(&mut self, rt: &impl Abort, (first, last): (u32, u32)) -> bool {
+        let mut agrees = true;
+        for number in (last..first.saturating_add(1)).rev() {
+            agrees = agrees && self.loses(rt, number);
+        }
+        agrees
+    }
+
+    // So many ticks pass.
+    fn ticks(&mut self, count: u32) -> bool {
+        for _tick in 0..count {
+            self.space.tick();
+        }
+        true
     }
 
     // A connection with the neighbour begins.
-    fn met(&mut self, peer: EdgeId) {
+    fn meets(&mut self, peer: EdgeId) -> bool {
         self.space.met(peer);
-    }
-
-    fn tick(&mut self) {
-        self.space.tick();
-    }
-
-    fn ticks(&mut self, count: u32) {
-        for _ in 0..count {
-            self.tick();
-        }
+        true
     }
 
     // The edge starts again.
-    fn restarted(&mut self) {
+    fn restarts(&mut self) -> bool {
         self.space.restarted();
         self.owned = 0;
+        true
+    }
+
+    // Whether the label of a number is owned by the end towards a neighbour.
+    fn owns(&self, rt: &impl Abort, words: &str) -> bool {
+        let (peer, number) = cut(rt, words);
+        let owner = (segment(neighbour(peer)), 1);
+        self.is_owned(rt, number_of(rt, number), Some(owner))
+    }
+
+    // Whether a step, which its first letter tells, comes to what it says: the space `gives` the end towards a neighbour numbers in turn,
+    // or none; the end that owns a number `loses` it, or numbers in turn; a neighbour `meets` the edge by a new connection; so many
+    // `ticks` pass; the edge `restarts`; the `next` number is this one; one is `unowned`, or the end towards a neighbour `owns` it.
+    fn does(&mut self, rt: &impl Abort, letter: u8, more: &str) -> bool {
+        match letter {
+            b'g' => self.gives_words(rt, more),
+            b'l' => self.loses_all(rt, range_of(rt, more)),
+            b'm' => self.meets(neighbour(more)),
+            b't' => self.ticks(number_of(rt, more)),
+            b'r' => self.restarts(),
+            b'n' => self.space.next_number() == number_of(rt, more),
+            b'u' => self.is_owned(rt, number_of(rt, more), None),
+            _ => self.owns(rt, more),
+        }
     }
 }
 
-#[test]
-fn gives_the_next_number_before_any_free_one(rt: HostRuntime) {
-    let mut labels = Labels::open(&rt, rt.alloc(), 1_048_572).expect(&rt, "memory");
-    labels.gives(&rt, 1_048_572);
-    labels.gives_to_c(&rt, 1_048_573);
-    labels.free(&rt, 1_048_572);
-    labels.met(B);
-    labels.ticks(64);
-    labels.gives_to_c(&rt, 1_048_574);
-    labels.gives(&rt, 1_048_575);
-    assert!(rt; labels.space.next_number() == 1_048_576);
-    labels.gives_to_c(&rt, 1_048_572);
-    labels.has_none(&rt);
-    labels.is_owned(&rt, 1_048_573, Some((TO_C, 1)));
-}
-
-// A label space whose one number is the largest, which was freed by its end towards B.
-fn after_the_largest(rt: &impl Abort, alloc: Global) -> Labels {
-    let mut labels = Labels::open(rt, alloc, 1_048_575).expect(rt, "memory");
-    labels.gives(rt, 1_048_575);
-    labels.has_none(rt);
-    labels.free(rt, 1_048_575);
-    labels
-}
-
-#[test]
-fn rests_for_64_ticks_after_a_new_connection(rt: HostRuntime) {
-    let mut labels = after_the_largest(&rt, rt.alloc());
-    labels.ticks(100);
-    labels.has_none(&rt);
-    labels.met(B);
-    labels.has_none(&rt);
-    labels.ticks(63);
-    labels.has_none(&rt);
-    labels.ticks(1);
-    labels.gives_to_c(&rt, 1_048_575);
-    labels.has_none(&rt);
-}
-
-#[test]
-fn waits_for_its_own_neighbour(rt: HostRuntime) {
-    let mut labels = after_the_largest(&rt, rt.alloc());
-    labels.met(C);
-    labels.ticks(64);
-    labels.has_none(&rt);
-    labels.met(B);
-    labels.ticks(64);
-    labels.gives_to_c(&rt, 1_048_575);
-    labels.free(&rt, 1_048_575);
-    labels.met(B);
-    labels.ticks(64);
-    labels.has_none(&rt);
-    labels.met(C);
-    labels.ticks(64);
-    labels.gives(&rt, 1_048_575);
-}
-
-#[test]
-fn rests_on_at_a_later_connection(rt: HostRuntime) {
-    let mut labels = after_the_largest(&rt, rt.alloc());
-    labels.met(B);
-    labels.ticks(30);
-    labels.met(B);
-    labels.ticks(33);
-    labels.has_none(&rt);
-    labels.ticks(1);
-    labels.gives(&rt, 1_048_575);
-}
-
-#[test]
-fn rests_on_over_a_restart(rt: HostRuntime) {
-    let mut labels = Labels::open(&rt, rt.alloc(), 1_048_573).expect(&rt, "memory");
-    labels.gives(&rt, 1_048_573);
-    labels.gives(&rt, 1_048_574);
-    labels.gives_to_c(&rt, 1_048_575);
-    labels.free(&rt, 1_048_574);
-    labels.met(B);
-    labels.ticks(30);
-    labels.restarted();
-    labels.is_owned(&rt, 1_048_573, None);
-    assert!(rt; labels.space.next_number() == 1_048_576);
-    labels.ticks(34);
-    labels.gives(&rt, 1_048_574);
-    labels.has_none(&rt);
-    labels.met(C);
-    labels.ticks(64);
-    labels.gives(&rt, 1_048_575);
-    labels.has_none(&rt);
-    labels.met(B);
-    labels.ticks(64);
-    labels.gives(&rt, 1_048_573);
-    labels.has_none(&rt);
-}
-
-#[test]
-fn gives_the_least_that_is_free(rt: HostRuntime) {
-    let mut labels = Labels::open(&rt, rt.alloc(), 1_048_572).expect(&rt, "memory");
-    for number in 1_048_572..1_048_576 {
-        labels.gives(&rt, number);
+// The numbers that stand on both sides of `to`, or one number twice.
+fn range_of(rt: &impl Abort, words: &str) -> (u32, u32) {
+    match words.split_once(" to ") {
+        Some((first, last)) => (number_of(rt, first), number_of(rt, last)),
+        None => (number_of(rt, words), number_of(rt, words)),
     }
-    labels.free(&rt, 1_048_574);
-    labels.met(B);
-    labels.ticks(1);
-    labels.free(&rt, 1_048_575);
-    labels.free(&rt, 1_048_572);
-    labels.free(&rt, 1_048_573);
-    labels.met(B);
-    labels.ticks(63);
-    labels.gives(&rt, 1_048_574);
-    labels.has_none(&rt);
-    labels.ticks(1);
-    labels.gives(&rt, 1_048_572);
-    labels.gives(&rt, 1_048_573);
-    labels.gives(&rt, 1_048_575);
-    labels.has_none(&rt);
 }
 
-// A label space whose last 4,097 numbers are owned.
-fn with_4097_owned(rt: &impl Abort, alloc: Global) -> Labels {
-    let mut labels = Labels::open(rt, alloc, 1_044_479).expect(rt, "memory");
-    for number in 1_044_479..1_048_576 {
-        labels.gives(rt, number);
-    }
-    labels
+// A new label space takes the place of this one; its first number is this one.
+fn begins(rt: &impl Abort, alloc: Global, labels: &mut Labels, first: u32) -> bool {
+    *labels = Labels::open(rt, alloc, first).expect(rt, "memory");
+    true
 }
 
-// These numbers alone are free, once what waits for B has rested.
-fn are_kept(rt: &impl Abort, mut labels: Labels, first: u32, end: u32) {
-    labels.met(B);
-    labels.ticks(63);
-    labels.has_none(rt);
-    labels.ticks(1);
-    for number in first..end {
-        labels.gives(rt, number);
+// A line is words for a reader, which end in a full stop, or a step that comes to what it says, or it begins `anew`.
+fn read_line(rt: &impl Abort, alloc: Global, labels: &mut Labels, line: &str) -> bool {
+    if line.is_empty() || line.ends_with('.') {
+        return true;
     }
-    labels.has_none(rt);
+    let (letter, more) = event_of(rt, line);
+    match letter {
+        b'a' => begins(rt, alloc, labels, number_of(rt, more)),
+        _ => labels.does(rt, letter, more),
+    }
 }
+
+// Each line of a script comes to what it says.
+fn plays(rt: &impl Abort, alloc: Global, script: &str) {
+    let mut labels = Labels::open(rt, alloc, 16).expect(rt, "memory");
+    for line in script.lines() {
+        let agrees = read_line(rt, alloc, &mut labels, line.trim());
+        assert!(rt; agrees, "{line}");
+    }
+}
+
+const STEPS: &str = "
+    The next number is given before any free one.
+    anew 1048572
+    gives B 1048572
+    gives C 1048573
+    loses 1048572
+    meets B
+    ticks 64
+    gives C 1048574
+    gives B 1048575
+    next 1048576
+    gives C 1048572
+    gives C none
+    owns C 1048573
+    The one number, the largest, rests for 64 ticks after a new connection with its neighbour.
+    anew 1048575
+    gives B 1048575
+    gives C none
+    loses 1048575
+    ticks 100
+    gives C none
+    meets B
+    gives C none
+    ticks 63
+    gives C none
+    ticks 1
+    gives C 1048575
+    gives C none
+    It waits for its own neighbour.
+    anew 1048575
+    gives B 1048575
+    gives C none
+    loses 1048575
+    meets C
+    ticks 64
+    gives C none
+    meets B
+    ticks 64
+    gives C 1048575
+    loses 1048575
+    meets B
+    ticks 64
+    gives C none
+    meets C
+    ticks 64
+    gives B 1048575
+    It rests on at a later connection.
+    anew 1048575
+    gives B 1048575
+    gives C none
+    loses 1048575
+    meets B
+    ticks 30
+    meets B
+    ticks 33
+    gives C none
+    ticks 1
+    gives B 1048575
+    Numbers rest on over a restart.
+    anew 1048573
+    gives B 1048573
+    gives B 1048574
+    gives C 1048575
+    loses 1048574
+    meets B
+    ticks 30
+    restarts
+    unowned 1048573
+    next 1048576
+    ticks 34
+    gives B 1048574
+    gives C none
+    meets C
+    ticks 64
+    gives B 1048575
+    gives C none
+    meets B
+    ticks 64
+    gives B 1048573
+    gives C none
+    The least number that is free is given.
+    anew 1048572
+    gives B 1048572 to 1048575
+    loses 1048574
+    meets B
+    ticks 1
+    loses 1048575
+    loses 1048572
+    loses 1048573
+    meets B
+    ticks 63
+    gives B 1048574
+    gives C none
+    ticks 1
+    gives B 1048572
+    gives B 1048573
+    gives B 1048575
+    gives C none
+    Of 4,097 numbers that are let go, the last is never given again.
+    anew 1044479
+    gives B 1044479 to 1048575
+    loses 1048575 to 1044479
+    meets B
+    ticks 63
+    gives C none
+    ticks 1
+    gives B 1044480 to 1048575
+    gives C none
+    Of 4,097 numbers that are owned where the edge starts again, the least ones are kept.
+    anew 1044479
+    gives B 1044479 to 1048575
+    restarts
+    meets B
+    ticks 63
+    gives C none
+    ticks 1
+    gives B 1044479 to 1048574
+    gives C none
+";
 
 #[test]
-fn never_gives_the_4097th_kept_number_again(rt: HostRuntime) {
-    let mut labels = with_4097_owned(&rt, rt.alloc());
-    for number in (1_044_479..1_048_576).rev() {
-        labels.free(&rt, number);
-    }
-    are_kept(&rt, labels, 1_044_480, 1_048_576);
-}
-
-#[test]
-fn keeps_the_least_numbers_at_a_restart(rt: HostRuntime) {
-    let mut labels = with_4097_owned(&rt, rt.alloc());
-    labels.restarted();
-    are_kept(&rt, labels, 1_044_479, 1_048_575);
+fn gives_numbers_as_they_are_free(rt: HostRuntime) {
+    plays(&rt, rt.alloc(), STEPS);
 }

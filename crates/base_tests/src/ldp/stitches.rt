@@ -5,7 +5,7 @@ ghost use Rattle.pw_signalling.specs.AnyEnd.{end_of};
 use crate::words::is_same;
 use net_base::{Addr, DropCause, Label, Text};
 use pw_signalling::{Binding, PwEnd, PwIdle, Told};
-use pw_stitch::{Side, Stitch, SwapDrop, Swapped, accepts, is_same_but_status, relabel};
+use pw_stitch::{Side, Stitch, SwapDrop, accepts, is_same_but_status, relabel};
 use pw_tlvs::{Point, Points, PwStatus, read_point, write_point};
 use std::process::Abort;
 
@@ -63,19 +63,63 @@ fn passed(rt: &impl Abort, told: Told, own: Addr, from: Addr) -> Told {
 fn is_behind(rt: &impl Abort, told: &Told, octets: &[u8]) {
     let mut out = [0u8; 18];
     let point = told.points.get(0).expect(rt, "a point");
-    assert!(rt; write_point(&point, &mut out) == 18);
-    assert!(rt; is_same(&out, octets));
+    assert!(rt; write_point(&point, &mut out) == 18 && is_same(&out, octets));
 }
 
-#[test]
-fn adds_its_point_once(rt: HostRuntime) {
-    let told = passed(&rt, told(&rt, 2), B, C);
-    is_behind(&rt, &told, &POINT);
-    assert!(&rt; told.status == Some(PwStatus(2)));
-    assert!(&rt; told.points.len() == 1);
-    assert!(&rt; !accepts(B, &told));
-    assert!(&rt; accepts(A, &told) && accepts(C, &told));
+// A switching point and the edge after it on the path, by which a content passes; and who accepts it then, and who does not.
+type Pass = (Addr, Addr, &'static [(Addr, bool)]);
+
+const ONE: [Pass; 1] = [(B, C, &[(A, true), (B, false), (C, true)])];
+
+const THREE: [Pass; 3] = [
+    (B, A, &[(C, true)]),
+    (C, B, &[(D, true)]),
+    (D, C, &[(A, false)]),
+];
+
+// These edges accept a content, or do not.
+fn accept(rt: &impl Abort, told: &Told, edges: &[(Addr, bool)]) {
+    for (edge, want) in edges {
+        assert!(rt; accepts(*edge, told) == *want, "{edge:?}");
+    }
 }
+
+// A content of this status that has passed by these switching points, each of which adds one point.
+fn passed_by(rt: &impl Abort, status: u32, passes: &[Pass]) -> Told {
+    let mut content = told(rt, status);
+    for (own, from, edges) in passes {
+        content = passed(rt, content, *own, *from);
+        accept(rt, &content, edges);
+    }
+    assert!(rt; content.points.len() == passes.len() && content.status == Some(PwStatus(status)));
+    content
+}
+
+// The point that POINT is, and those of two other switching points.
+const AT_B: Point = Point {
+    pw_id: Some(100),
+    local: Some(B),
+    remote: Some(C),
+};
+
+const AT_A: Point = Point {
+    local: Some(A),
+    remote: None,
+    ..AT_B
+};
+
+const AT_C: Point = Point {
+    local: Some(C),
+    ..AT_A
+};
+
+// The points of a content, and whether B accepts it.
+const POINTS: [(&'static [Point], bool); 4] = [
+    (&[AT_B], false),
+    (&[AT_A, AT_B], false),
+    (&[AT_A, AT_C], true),
+    (&[AT_A, AT_C, AT_A], false),
+];
 
 // A content with these points.
 fn behind(rt: &impl Abort, points: &[Point]) -> Told {
@@ -88,22 +132,14 @@ fn behind(rt: &impl Abort, points: &[Point]) -> Told {
     content
 }
 
-// The point of a switching point with this address.
-fn point(local: Addr) -> Point {
-    Point {
-        pw_id: Some(100),
-        local: Some(local),
-        remote: None,
-    }
-}
-
 #[test]
-fn accepts_two_other_points(rt: HostRuntime) {
-    let heard = read_point(&POINT).expect(&rt, "a point");
-    assert!(&rt; !accepts(B, &behind(&rt, &[heard])));
-    assert!(&rt; !accepts(B, &behind(&rt, &[point(A), heard])));
-    assert!(&rt; accepts(B, &behind(&rt, &[point(A), point(C)])));
-    assert!(&rt; !accepts(B, &behind(&rt, &[point(A), point(C), point(A)])));
+fn adds_points_and_accepts_two_others(rt: HostRuntime) {
+    is_behind(&rt, &passed_by(&rt, 2, ONE.as_slice()), &POINT);
+    passed_by(&rt, 0, THREE.as_slice());
+    assert!(rt; read_point(&POINT) == Ok(AT_B));
+    for (points, want) in POINTS.as_slice() {
+        accept(&rt, &behind(&rt, points), &[(B, *want)]);
+    }
 }
 
 // An end that advertises the one label, and is bound to the other with this status.
@@ -122,47 +158,60 @@ fn through(rt: &impl Abort) -> Stitch {
     stitch
 }
 
-// A packet with this label and TTL goes on like this.
-fn swaps(rt: &impl Abort, stitch: &Stitch, packet: (u32, u8), next: Result<Swapped, SwapDrop>) {
-    let (number, ttl) = packet;
+// The label and the TTL of a packet, and the side, the label and the TTL with which it goes on.
+type Swap = (u32, u8, Result<(Side, u32, u8), SwapDrop>);
+
+const SWAPS: [Swap; 6] = [
+    (16, 2, Ok((Side::After, 500, 1))),
+    (20, 2, Ok((Side::Before, 600, 1))),
+    (20, 1, Err(SwapDrop::Expired)),
+    (16, 255, Ok((Side::After, 500, 254))),
+    (16, 254, Ok((Side::After, 500, 253))),
+    (16, 253, Ok((Side::After, 500, 252))),
+];
+
+// The same where the end behind it is new.
+const UNBOUND: [Swap; 1] = [(16, 1, Err(SwapDrop::NoBinding))];
+
+// Whether a packet goes on like this.
+fn goes_on(rt: &impl Abort, stitch: &Stitch, (number, ttl, want): Swap) -> bool {
     let label = label(rt, number);
     assert!(rt; ttl >= 1 && stitch.takes(label));
-    assert!(rt; stitch.swap(label, ttl) == next);
+    match (stitch.swap(label, ttl), want) {
+        (Ok(next), Ok(want)) => (next.side, next.label.number(), next.ttl) == want,
+        (Err(cause), Err(want)) => cause == want,
+        _ => false,
+    }
 }
 
-// It goes on by this side, under this label and with this TTL.
-fn next(rt: &impl Abort, side: Side, number: u32, ttl: u8) -> Result<Swapped, SwapDrop> {
-    let label = label(rt, number);
-    Ok(Swapped { side, label, ttl })
+// Packets go on like this, label 500 is not taken, and this status is to be passed on to the end before.
+fn swaps(rt: &impl Abort, stitch: &Stitch, rows: &[Swap], status: u32) {
+    for row in rows {
+        assert!(rt; goes_on(rt, stitch, *row), "{row:?}");
+    }
+    let passes = stitch.status_to_pass(Side::Before) == PwStatus(status);
+    assert!(rt; passes && !stitch.takes(label(rt, 500)));
 }
+
+// The end behind a switching point is new.
+fn unbound(mut stitch: Stitch) -> Stitch {
+    drop(stitch.replace(Side::After, PwEnd::Idle(PwIdle::new())));
+    stitch
+}
+
+const CAUSES: [(SwapDrop, DropCause); 2] = [
+    (SwapDrop::NoBinding, DropCause::NoBinding),
+    (SwapDrop::Expired, DropCause::Expired),
+];
 
 #[test]
 fn passes_packets_both_ways(rt: HostRuntime) {
-    let mut stitch = through(&rt);
-    swaps(&rt, &stitch, (16, 2), next(&rt, Side::After, 500, 1));
-    swaps(&rt, &stitch, (20, 2), next(&rt, Side::Before, 600, 1));
-    swaps(&rt, &stitch, (20, 1), Err(SwapDrop::Expired));
-    assert!(&rt; !stitch.takes(label(&rt, 500)));
-    assert!(&rt; stitch.status_to_pass(Side::Before) == PwStatus(0x20));
-    drop(stitch.replace(Side::After, PwEnd::Idle(PwIdle::new())));
-    swaps(&rt, &stitch, (16, 1), Err(SwapDrop::NoBinding));
-    assert!(&rt; stitch.status_to_pass(Side::Before) == PwStatus(0));
-    assert!(&rt; SwapDrop::NoBinding.cause() == DropCause::NoBinding);
-    assert!(&rt; SwapDrop::Expired.cause() == DropCause::Expired);
-}
-
-#[test]
-fn passes_three_in_a_row(rt: HostRuntime) {
-    let first = passed(&rt, told(&rt, 0), B, A);
-    assert!(&rt; accepts(C, &first));
-    let second = passed(&rt, first, C, B);
-    assert!(&rt; accepts(D, &second));
-    let third = passed(&rt, second, D, C);
-    assert!(&rt; third.points.len() == 3 && !accepts(A, &third));
     let stitch = through(&rt);
-    swaps(&rt, &stitch, (16, 255), next(&rt, Side::After, 500, 254));
-    swaps(&rt, &stitch, (16, 254), next(&rt, Side::After, 500, 253));
-    swaps(&rt, &stitch, (16, 253), next(&rt, Side::After, 500, 252));
+    swaps(&rt, &stitch, SWAPS.as_slice(), 0x20);
+    swaps(&rt, &unbound(stitch), UNBOUND.as_slice(), 0);
+    for (swap, cause) in CAUSES.as_slice() {
+        assert!(rt; swap.cause() == *cause);
+    }
 }
 
 #[test]
@@ -172,14 +221,22 @@ fn keeps_all_but_label_and_ttl(rt: HostRuntime) {
     assert!(&rt; is_same(&packet, &[0x00, 0x1f, 0x4f, 0xfe, 0x12, 0x34]));
 }
 
+// Whether a content differs from one of status 0 in no more than its status.
+fn differs(rt: &impl Abort, content: &Told, want: bool) {
+    assert!(rt; is_same_but_status(&told(rt, 0), content) != want);
+}
+
+// The same without an MTU.
+fn without_mtu(content: Told) -> Told {
+    Told {
+        mtu: None,
+        ..content
+    }
+}
+
 #[test]
 fn tells_a_status_from_a_mapping(rt: HostRuntime) {
-    let first = told(&rt, 0);
-    let other = Told {
-        mtu: None,
-        ..told(&rt, 0)
-    };
-    assert!(&rt; is_same_but_status(&first, &told(&rt, 1)));
-    assert!(&rt; !is_same_but_status(&first, &other));
-    assert!(&rt; !is_same_but_status(&first, &passed(&rt, told(&rt, 0), B, C)));
+    differs(&rt, &told(&rt, 1), false);
+    differs(&rt, &without_mtu(told(&rt, 0)), true);
+    differs(&rt, &passed(&rt, told(&rt, 0), B, C), true);
 }

@@ -2,7 +2,7 @@
 ghost use Rattle.std.specs.Prelude.{◌≤◌};
 
 use crate::hex::octets_of;
-use crate::ldp::scripts::{event_of, number};
+use crate::steps::{event_of, number};
 use crate::words::is_told;
 use ldp_grammar::Pdu;
 use ldp_stream::{Stream, StreamFault};

@@ -1,4 +1,4 @@
-//! Words of scripts.
+//! Words of steps.
 
 use std::process::Abort;
 
@@ -19,4 +19,14 @@ pub fn number(rt: &impl Abort, digits: &str) -> usize {
 /// How many rows a line is: one where it has words behind `= `.
 pub fn rows_in(line: &str) -> usize {
     if line.contains("= ") { 1 } else { 0 }
+}
+
+/// A number of 32 bits of these digits.
+pub fn number_of(rt: &impl Abort, digits: &str) -> u32 {
+    digits.parse::<u32>().ok().expect(rt, "a number")
+}
+
+/// The words before and behind the first blank.
+pub fn cut<'a>(rt: &impl Abort, words: &'a str) -> (&'a str, &'a str) {
+    words.split_once(' ').expect(rt, "two words")
 }
