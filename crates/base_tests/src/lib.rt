@@ -1,8 +1,10 @@
-//! Tests of the crates below an edge: plans, tables of addresses, LDP and pseudowires, frames, packets, captures, texts and
-//! scenarios. They stand in a crate of their own, since a crate with tests is proved twice, and in one, since each such crate loads and
-//! links all that its tests use; `edge_tests` has those of an edge.
+//! Tests of the crates below an edge: plans, tables of addresses, LDP and pseudowires, frames, packets, captures, texts, scenarios, scripts
+//! and reports. They stand in a crate of their own, since a crate with tests is proved twice, and in one, since each such crate loads and
+//! links all that its tests use; `network_tests` has those of an edge and of networks.
 #![tactic(auto)]
 
+#[cfg(test)]
+mod audits;
 #[cfg(test)]
 mod captures;
 #[cfg(test)]
@@ -29,6 +31,8 @@ mod rehearsals;
 mod reports;
 #[cfg(test)]
 mod scenarios;
+#[cfg(test)]
+mod script_files;
 #[cfg(test)]
 mod steps;
 #[cfg(test)]

@@ -1,30 +1,13 @@
-//! Tests of the network by its own calls: runs of small networks, and of the largest one that the limit lets be. They stand apart from
-//! those of the commands, so that they need not wait for the program.
+//! Tests of edges, of edges in independent mode and of networks by their own calls. They stand apart from those of the crates below an edge
+//! and from those of the commands, so that they need not wait for the program; and in one crate, since each crate of tests loads and links
+//! all that its tests use.
 #![tactic(auto)]
 
 #[cfg(test)]
-mod given_frames;
+mod edge;
 #[cfg(test)]
-mod hierarchy;
+mod independent;
 #[cfg(test)]
-mod labels;
+mod network;
 #[cfg(test)]
-mod largest;
-#[cfg(test)]
-mod lent_maps;
-#[cfg(test)]
-mod limit;
-#[cfg(test)]
-mod paths;
-#[cfg(test)]
-mod plans;
-#[cfg(test)]
-mod pseudowires;
-#[cfg(test)]
-mod services;
-#[cfg(test)]
-mod sessions;
-#[cfg(test)]
-mod steps;
-#[cfg(test)]
-mod traces;
+mod octets;

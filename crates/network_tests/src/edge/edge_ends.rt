@@ -1,0 +1,247 @@
+//! The ends of an edge that two wires join to two others, through their calls.
+ghost use Rattle.std.specs.Prelude.{◌≡◌, ◌≤◌, [], None};
+ghost use Rattle.net_base.specs.plan.Accepted.{IsChecked};
+
+use crate::edge::plans::{A, B, C, PATH, TWO_WIRES, plan_of};
+use net_base::{EdgeId, Label, Offer, Plan, Text, WireId};
+use pw_ends::PwEnds;
+use pw_messages::content_of;
+use pw_signalling::{Binding, PwEnd, Told};
+use pw_tlvs::PwStatus;
+use std::alloc::Global;
+use std::process::Abort;
+
+// The ends of the first edge of a plan.
+fn ends_of(rt: &impl Abort, alloc: Global, plan: &Plan) -> PwEnds
+    requires { IsChecked plan.now }
+{
+    assert!(rt; !plan.edges.is_empty());
+    PwEnds::open(alloc, plan, A).expect(rt, "memory")
+}
+
+// The ends of the first edge.
+fn opened(rt: &impl Abort, alloc: Global) -> PwEnds {
+    let plan = plan_of(rt, alloc, TWO_WIRES);
+    ends_of(rt, alloc, &plan)
+}
+
+// What an end of group 7 tells.
+fn told(rt: &impl Abort, status: Option<PwStatus>) -> Told
+    ensures kind { result.kind ≤ 0x7FFF }
+    ensures vlan { result.vlan ≡ None }
+    ensures points { result.points ≡ [] }
+{
+    let offer = Offer {
+        tagged: false,
+        cword: true,
+        mtu: Some(1500),
+        vlan: None,
+        vccv: None,
+        status: true,
+        group: 7,
+        description: Text::read([].as_slice()).expect(rt, "a text"),
+    };
+    content_of(&offer, status)
+}
+
+// The idle end of a slot advertises; answers the number of its label, or 0 where none is left.
+fn advertised(rt: &impl Abort, ends: &mut PwEnds, slot: usize, told: &Told) -> u32
+    requires { told.now.kind ≤ 0x7FFF }
+{
+    assert!(rt; slot < ends.len());
+    match ends.end(slot) {
+        PwEnd::Idle(_) => match ends.advertise(slot, told) {
+            Some(label) => label.number(),
+            None => 0,
+        },
+        _ => 0,
+    }
+}
+
+// A label is advertised with this number by the end of this slot, or by none.
+fn is_advertised(rt: &impl Abort, ends: &PwEnds, number: u32, slot: Option<usize>) {
+    assert!(rt; ends.advertiser(number) == slot);
+}
+
+// Whether the end of a slot is idle, and holds no binding.
+fn is_fresh(ends: &PwEnds, slot: usize) -> bool {
+    slot < ends.len() && matches!(ends.end(slot), PwEnd::Idle(end) if end.remote().is_none())
+}
+
+// The label with this number is owned by the end of this slot, or by none.
+fn is_owned(rt: &impl Abort, ends: &PwEnds, number: u32, slot: Option<usize>) {
+    let label = Label::new(number).expect(rt, "a label");
+    assert!(rt; ends.owner(label) == slot);
+}
+
+// A peer and a PW ID, and the slot of their end.
+const SLOTS: [(EdgeId, u32, Option<usize>); 4] = [
+    (B, 100, Some(0)),
+    (C, 100, Some(1)),
+    (B, 101, None),
+    (A, 100, None),
+];
+
+// Each end is found by its peer and its PW ID.
+fn are_found(rt: &impl Abort, ends: &PwEnds) {
+    for (peer, pw_id, slot) in SLOTS.as_slice() {
+        assert!(rt; ends.find(*peer, *pw_id) == *slot);
+    }
+}
+
+// Whether wire 1 passes the edge, wire 0 ends there, and wire 2 does not pass it.
+fn knows_wires(ends: &PwEnds) -> bool {
+    ends.passes(WireId(1)) && ends.ends_here(WireId(0)) && !ends.passes(WireId(2))
+}
+
+// Both ends are idle and are found, and the edge knows its wires.
+fn stand(rt: &impl Abort, ends: &PwEnds) {
+    assert!(rt; ends.len() == 2);
+    assert!(rt; is_fresh(ends, 0) && is_fresh(ends, 1));
+    are_found(rt, ends);
+    assert!(rt; knows_wires(ends));
+}
+
+// Both ends of wire 0 are in the slots of the edge, and wire 1 has none.
+fn knows_slots(ends: &PwEnds) -> bool {
+    let (first, past) = ends.slots_of(WireId(1));
+    ends.slots_of(WireId(0)) == (0, 2) && past <= first
+}
+
+// The switching point of a wire has its two ends.
+fn switches(rt: &impl Abort, alloc: Global) {
+    let plan = plan_of(rt, alloc, PATH);
+    assert!(rt; plan.edges.len() == 3);
+    let ends = PwEnds::open(alloc, &plan, B).expect(rt, "memory");
+    assert!(rt; knows_slots(&ends));
+}
+
+// The idle end of a slot advertises with the label of this number, or with none where it is 0.
+fn advertises(rt: &impl Abort, ends: &mut PwEnds, slot: usize, told: &Told, number: u32)
+    requires { told.now.kind ≤ 0x7FFF }
+{
+    assert!(rt; advertised(rt, ends, slot, told) == number);
+}
+
+// Both ends advertise, with the first two of the edge's four labels.
+fn advertise(rt: &impl Abort, ends: &mut PwEnds) {
+    let told = told(rt, Some(PwStatus(0)));
+    advertises(rt, ends, 0, &told, 1_048_572);
+    advertises(rt, ends, 1, &told, 1_048_573);
+}
+
+// Both ends own their labels, until the connection is lost and the edge restarts.
+fn own_labels(rt: &impl Abort, ends: &mut PwEnds) {
+    advertise(rt, ends);
+    ends.lose(B);
+    assert!(rt; is_fresh(ends, 0));
+    is_owned(rt, ends, 1_048_572, None);
+    is_owned(rt, ends, 1_048_573, Some(1));
+    ends.restarted();
+    is_owned(rt, ends, 1_048_573, None);
+    assert!(rt; ends.next_label() == 1_048_574);
+}
+
+// Both ends advertise, until one withdraws.
+fn advertise_until_one_withdraws(rt: &impl Abort, ends: &mut PwEnds) {
+    advertise(rt, ends);
+    is_advertised(rt, ends, 1_048_573, Some(1));
+    assert!(rt; ends.len() == 2);
+    ends.withdraw(1);
+    is_advertised(rt, ends, 1_048_573, None);
+    is_advertised(rt, ends, 1_048_572, Some(0));
+}
+
+// The first end has no label to advertise once the edge has given its four.
+fn end_with_the_labels(rt: &impl Abort, ends: &mut PwEnds) {
+    let told = told(rt, None);
+    for number in 1_048_572..1_048_576 {
+        advertises(rt, ends, 0, &told, number);
+        ends.lose(B);
+    }
+    advertises(rt, ends, 0, &told, 0);
+    assert!(rt; is_fresh(ends, 0) && !ends.has_label());
+}
+
+// So many ticks pass.
+fn tick_often(ends: &mut PwEnds, ticks: u16) {
+    for _tick in 0..ticks {
+        ends.tick();
+    }
+}
+
+// The four labels that the first end has left wait for its peer, however many ticks pass. They rest from the next connection with it on,
+// and after 64 ticks the least one is given again.
+fn give_a_label_again(rt: &impl Abort, ends: &mut PwEnds) {
+    end_with_the_labels(rt, ends);
+    tick_often(ends, 64);
+    ends.met(C);
+    tick_often(ends, 64);
+    assert!(rt; !ends.has_label());
+    ends.met(B);
+    tick_often(ends, 63);
+    assert!(rt; !ends.has_label());
+    ends.tick();
+    assert!(rt; ends.has_label());
+    advertises(rt, ends, 0, &told(rt, None), 1_048_572);
+    is_owned(rt, ends, 1_048_572, Some(0));
+}
+
+// The end of a slot hears a mapping of label 17.
+fn binds(rt: &impl Abort, ends: &mut PwEnds, slot: usize) {
+    assert!(rt; slot < ends.len());
+    let label = Label::new(17).expect(rt, "a label");
+    let told = told(rt, None);
+    ends.on_mapping(slot, &Binding { label, told });
+}
+
+// Whether the end of a slot holds a binding.
+fn is_bound(ends: &PwEnds, slot: usize) -> bool {
+    slot < ends.len() && ends.end(slot).remote().is_some()
+}
+
+// The first end holds its binding where the second one's peer withdraws their group.
+fn hold_a_binding(rt: &impl Abort, ends: &mut PwEnds) {
+    binds(rt, ends, 0);
+    binds(rt, ends, 1);
+    ends.on_group_withdraw(C, 7);
+    assert!(rt; is_bound(ends, 0));
+    assert!(rt; !is_bound(ends, 1));
+}
+
+// What the ends of the first edge have to do, each once they are opened.
+#[derive(Clone, Copy)]
+enum Deed {
+    Stand,
+    OwnLabels,
+    AdvertiseUntilOneWithdraws,
+    EndWithTheLabels,
+    GiveALabelAgain,
+    HoldABinding,
+}
+
+// The ends of the first edge are opened, and do a deed.
+fn opened_do(rt: &impl Abort, alloc: Global, deed: Deed) {
+    let mut ends = opened(rt, alloc);
+    match deed {
+        Deed::Stand => stand(rt, &ends),
+        Deed::OwnLabels => own_labels(rt, &mut ends),
+        Deed::AdvertiseUntilOneWithdraws => advertise_until_one_withdraws(rt, &mut ends),
+        Deed::EndWithTheLabels => end_with_the_labels(rt, &mut ends),
+        Deed::GiveALabelAgain => give_a_label_again(rt, &mut ends),
+        Deed::HoldABinding => hold_a_binding(rt, &mut ends),
+    }
+    drop(ends);
+}
+
+#[test]
+fn ends_stand_advertise_and_bind(rt: HostRuntime) {
+    let alloc = rt.alloc();
+    opened_do(&rt, alloc, Deed::Stand);
+    opened_do(&rt, alloc, Deed::OwnLabels);
+    opened_do(&rt, alloc, Deed::AdvertiseUntilOneWithdraws);
+    opened_do(&rt, alloc, Deed::EndWithTheLabels);
+    opened_do(&rt, alloc, Deed::GiveALabelAgain);
+    opened_do(&rt, alloc, Deed::HoldABinding);
+    switches(&rt, alloc);
+}

@@ -1,0 +1,59 @@
+//! An edge over a link in memory.
+ghost use Rattle.provider_edge.specs.Taking.{IsInRange};
+
+use crate::edge::plans::opened;
+use edge_model::{Effects, Input};
+use net_base::{EdgeId, List, MemLink};
+use provider_edge::Edge;
+use std::alloc::Global;
+use std::process::Abort;
+
+/// An edge, its link, what came of its last input, and how many calls of the link have been handed to the neighbour.
+#[derive(Drop)]
+pub struct Side {
+    pub edge: Edge,
+    pub link: MemLink,
+    pub effects: Effects,
+    pub handed: usize,
+}
+
+// The numbers of the calls that fail: the one with this number, and none for 0.
+fn failing(rt: &impl Abort, alloc: Global, number: u64) -> List<u64> {
+    let mut numbers = List::new(alloc);
+    if number > 0 {
+        numbers.push(number).expect(rt, "memory");
+    }
+    numbers
+}
+
+/// The edge of a scenario with this place; the call of its link with this number fails, and none for 0.
+pub fn side_of(rt: &impl Abort, alloc: Global, text: &str, me: EdgeId, fails: u64) -> Side {
+    Side {
+        edge: opened(rt, alloc, text, me),
+        link: MemLink::new(alloc, failing(rt, alloc, fails)).expect(rt, "memory"),
+        effects: Effects {
+            idle: true,
+            list: List::new(alloc),
+        },
+        handed: 0,
+    }
+}
+
+/// Takes an input.
+pub fn take(rt: &impl Abort, alloc: Global, side: &mut Side, input: Input<'_>)
+    requires { IsInRange input }
+{
+    side.effects = side
+        .edge
+        .take(alloc, input, &mut side.link)
+        .expect(rt, "taken");
+}
+
+/// Takes an input so many times.
+pub fn take_often(rt: &impl Abort, alloc: Global, side: &mut Side, input: Input<'_>, times: u16)
+    requires { IsInRange input }
+{
+    for _time in 0..times {
+        take(rt, alloc, side, input);
+    }
+}

@@ -1,0 +1,15 @@
+//! Runs of small networks, and of the largest one that the limit lets be.
+
+mod given_frames;
+mod hierarchy;
+mod labels;
+mod largest;
+mod lent_maps;
+mod limit;
+mod paths;
+mod plans;
+mod pseudowires;
+mod services;
+mod sessions;
+mod steps;
+mod traces;

@@ -1,0 +1,176 @@
+//! Labels are given again, and packets age. The first edge has one label left, 1048575.
+
+use crate::network::plans::{
+    LARGEST, LAST_LABEL, LAST_LABEL_AND_A_SHORT_SESSION, LAST_LABEL_OF_TWO,
+};
+use crate::network::steps::{Step, plays};
+
+const UP: [Step; 3] = [Step::Connect(0, 1), Step::Settle, Step::Mappings(0, 1, 1)];
+
+// A number that is freed while the connection stands waits for the next one, however many ticks pass; then it rests for 64.
+const WAITS_FOR_THE_NEXT_CONNECTION: [Step; 17] = [
+    Step::Wire(0, false),
+    Step::Settle,
+    Step::Wire(0, true),
+    Step::Ticks(64),
+    Step::Mappings(0, 1, 1),
+    Step::NextLabel(0, 1048576),
+    Step::Lose(0, 1),
+    Step::Settle,
+    Step::Connect(0, 1),
+    Step::Settle,
+    Step::Ticks(63),
+    Step::Mappings(0, 1, 1),
+    Step::Tick,
+    Step::Mappings(0, 1, 2),
+    Step::Settle,
+    Step::Bound(17, 1048575),
+    Step::NextLabel(0, 1048576),
+];
+
+// Ticks before the connection count for nothing.
+const RESTS_FROM_THE_CONNECTION_ON: [Step; 9] = [
+    Step::Lose(0, 1),
+    Step::Settle,
+    Step::Ticks(64),
+    Step::Connect(0, 1),
+    Step::Settle,
+    Step::Ticks(63),
+    Step::Mappings(0, 1, 1),
+    Step::Tick,
+    Step::Mappings(0, 1, 2),
+];
+
+// A number that rests already does not begin anew with a later connection.
+const RESTS_ON: [Step; 13] = [
+    Step::Lose(0, 1),
+    Step::Settle,
+    Step::Connect(0, 1),
+    Step::Settle,
+    Step::Ticks(30),
+    Step::Lose(0, 1),
+    Step::Settle,
+    Step::Connect(0, 1),
+    Step::Settle,
+    Step::Ticks(33),
+    Step::Mappings(0, 1, 1),
+    Step::Tick,
+    Step::Mappings(0, 1, 2),
+];
+
+// After a restart the numbers that the edge owned wait for their neighbours.
+const WAITS_AFTER_A_RESTART: [Step; 10] = [
+    Step::Restart(0),
+    Step::Settle,
+    Step::Ticks(64),
+    Step::Connect(0, 1),
+    Step::Settle,
+    Step::Ticks(63),
+    Step::Mappings(0, 1, 1),
+    Step::Tick,
+    Step::Mappings(0, 1, 2),
+    Step::NextLabel(0, 1048576),
+];
+
+// A connection with another neighbour begins no rest. Once the number is free, the first end in the order of wires that wants one has it,
+// though it is of another neighbour.
+const GOES_TO_THE_FIRST_WIRE: [Step; 16] = [
+    Step::Lose(0, 1),
+    Step::Settle,
+    Step::Connect(0, 2),
+    Step::Settle,
+    Step::Ticks(64),
+    Step::Mappings(0, 2, 0),
+    Step::Mappings(0, 1, 1),
+    Step::Connect(0, 1),
+    Step::Settle,
+    Step::Ticks(63),
+    Step::Mappings(0, 2, 0),
+    Step::Mappings(0, 1, 1),
+    Step::Tick,
+    Step::Mappings(0, 2, 1),
+    Step::Mappings(0, 1, 1),
+    Step::NextLabel(0, 1048576),
+];
+
+// The end that would have the number is lost at the tick that makes it free, since its session expires then: the next one has it.
+const GOES_TO_ONE_WHOSE_SESSION_STANDS: [Step; 10] = [
+    Step::Lose(0, 1),
+    Step::Settle,
+    Step::Connect(0, 1),
+    Step::Settle,
+    Step::Connect(0, 2),
+    Step::Settle,
+    Step::Ticks(63),
+    Step::Tick,
+    Step::Mappings(0, 2, 0),
+    Step::Mappings(0, 1, 2),
+];
+
+#[test]
+fn labels_are_given_again(rt: HostRuntime) {
+    let alloc = rt.alloc();
+    plays(&rt, alloc, &LAST_LABEL, &UP, &WAITS_FOR_THE_NEXT_CONNECTION);
+    plays(&rt, alloc, &LAST_LABEL, &UP, &RESTS_FROM_THE_CONNECTION_ON);
+    plays(&rt, alloc, &LAST_LABEL, &UP, &RESTS_ON);
+    plays(&rt, alloc, &LAST_LABEL, &UP, &WAITS_AFTER_A_RESTART);
+    plays(&rt, alloc, &LAST_LABEL_OF_TWO, &UP, &GOES_TO_THE_FIRST_WIRE);
+    plays(
+        &rt,
+        alloc,
+        &LAST_LABEL_AND_A_SHORT_SESSION,
+        &UP,
+        &GOES_TO_ONE_WHOSE_SESSION_STANDS,
+    );
+}
+
+const SENDS: [Step; 4] = [
+    Step::Connect(0, 1),
+    Step::Settle,
+    Step::Frame(0, "ffffffffffff0200000000010800"),
+    Step::UnderWay(1),
+];
+
+// A packet is lost at the tick that makes it 64 ticks old.
+const AGES: [Step; 8] = [
+    Step::Ticks(63),
+    Step::UnderWay(1),
+    Step::Tick,
+    Step::UnderWay(0),
+    Step::Ends(">>a"),
+    Step::Arrive(1),
+    Step::Idle(true),
+    Step::Left(1, "//////"),
+];
+
+// A copy is as old as the packet that it repeats; both are told by their numbers.
+const COPIES_AGE_ALIKE: [Step; 7] = [
+    Step::Ticks(40),
+    Step::Again(1),
+    Step::Ticks(23),
+    Step::UnderWay(2),
+    Step::Tick,
+    Step::UnderWay(0),
+    Step::Ends(">>aa"),
+];
+
+// One that was sent a tick later lives a tick longer.
+const AGES_ONE_BY_ONE: [Step; 9] = [
+    Step::Tick,
+    Step::Frame(0, "ffffffffffff0200000000010800"),
+    Step::Ticks(62),
+    Step::UnderWay(2),
+    Step::Tick,
+    Step::Ends(">>a"),
+    Step::UnderWay(1),
+    Step::Tick,
+    Step::Ends(">a>a"),
+];
+
+#[test]
+fn packets_age(rt: HostRuntime) {
+    let alloc = rt.alloc();
+    plays(&rt, alloc, &LARGEST, &SENDS, &AGES);
+    plays(&rt, alloc, &LARGEST, &SENDS, &COPIES_AGE_ALIKE);
+    plays(&rt, alloc, &LARGEST, &SENDS, &AGES_ONE_BY_ONE);
+}

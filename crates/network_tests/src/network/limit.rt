@@ -1,0 +1,70 @@
+//! The largest network of one edge floods as much as the limit lets be.
+ghost use Rattle.std.specs.Prelude.{◌<◌};
+
+use crate::network::plans::network_of;
+use net_base::{CircuitId, Event, List};
+use psn_net::{NetStop, Network};
+use std::alloc::Global;
+use std::process::Abort;
+
+// An edge and a service.
+const EDGE: &str =
+    "version = 1\n[[edge]]\nname = \"e\"\naddress = \"10.0.0.1\"\n[[service]]\nname = \"s\"\nmtu = 9198\n";
+
+// Puts a circuit into a scenario.
+fn put_circuit(rt: &impl Abort, alloc: Global, text: &mut String, number: u16) {
+    let row = format!(in alloc;
+        "[[circuit]]\nname = \"c{number}\"\nedge = \"e\"\nservice = \"s\"\n"
+    );
+    text.push_str(row.expect(rt, "memory").as_str())
+        .expect(rt, "memory");
+}
+
+// An edge with 512 circuits of one service.
+fn largest(rt: &impl Abort, alloc: Global) -> Network {
+    let mut text = String::new(alloc);
+    text.push_str(EDGE).expect(rt, "memory");
+    for number in 0..512 {
+        put_circuit(rt, alloc, &mut text, number);
+    }
+    network_of(rt, alloc, &[text.as_str()])
+}
+
+// A broadcast of 9,216 octets enters at the first circuit.
+fn enter(rt: &impl Abort, alloc: Global, network: &mut Network) -> Result<(), NetStop> {
+    assert!(rt; !network.plan().circuits.is_empty());
+    let event = Event::Frame {
+        circuit: CircuitId(0),
+        bytes: List::from_bytes(alloc, [255; 9216].as_slice()).expect(rt, "memory"),
+    };
+    network.apply(alloc, &event)
+}
+
+// The next broadcast is too much, and nothing is changed.
+fn is_too_much(rt: &impl Abort, alloc: Global, network: &mut Network, entries: usize) {
+    let stop = NetStop::TooMuch {
+        weight: 271_356_480,
+        event: 58,
+    };
+    assert!(rt; enter(rt, alloc, network) == Err(stop));
+    assert!(rt; network.weight() == 271_356_480);
+    assert!(rt; network.trace().len() == entries);
+}
+
+// The trace takes 57 broadcasts, and no other one.
+fn fills(rt: &impl Abort, alloc: Global, network: &mut Network) {
+    for _done in 0..57 {
+        assert!(rt; enter(rt, alloc, network).is_ok());
+    }
+    let entries = network.trace().len();
+    for _again in 0..3 {
+        is_too_much(rt, alloc, network, entries);
+    }
+}
+
+#[test]
+fn stops_where_the_trace_is_too_heavy(rt: HostRuntime) {
+    let mut network = largest(&rt, rt.alloc());
+    fills(&rt, rt.alloc(), &mut network);
+    drop(network.into_trace());
+}

@@ -1,0 +1,47 @@
+//! Octets from their hexadecimal digits, and beside those that are expected.
+
+use std::alloc::Global;
+use std::process::Abort;
+
+// The value of a hexadecimal digit; none for a blank or the end of a line.
+fn nibble(digit: u8) -> Option<u8> {
+    match digit {
+        b'0'..=b'9' => Some(digit - b'0'),
+        b'a'..=b'f' => Some(digit - b'a' + 10),
+        _ => None,
+    }
+}
+
+/// Adds the octets of pairs of hexadecimal digits at the end; what is no digit is passed over.
+pub fn push_octets(rt: &impl Abort, octets: &mut Vec<u8>, text: &str) {
+    let mut high = None;
+    for digit in text.as_bytes() {
+        if let Some(value) = nibble(*digit) {
+            match high {
+                None => high = Some(value),
+                Some(front) => {
+                    octets.push((front << 4) | value).expect(rt, "memory");
+                    high = None;
+                }
+            }
+        }
+    }
+}
+
+/// The octets of pairs of hexadecimal digits; what is no digit is passed over.
+pub fn octets_of(rt: &impl Abort, alloc: Global, text: &str) -> Vec<u8> {
+    let mut octets = Vec::new(alloc);
+    push_octets(rt, &mut octets, text);
+    octets
+}
+
+/// Whether these are the same octets. Tests compare them by this one call, since each comparison takes long to prove.
+pub fn is_same(one: &[u8], other: &[u8]) -> bool {
+    one == other
+}
+
+/// The front of what was written is these octets, and what stands behind them stays 0xee.
+pub fn is_front(out: &[u8], octets: &[u8]) -> bool {
+    let (front, rest) = out.split_at(octets.len().min(out.len()));
+    is_same(front, octets) && rest.iter().all(|octet| *octet == 0xee)
+}
