@@ -1,6 +1,7 @@
 //! Captures that were worked out by hand: their frames, and one file for each fault and each field, with its place.
 
 use crate::hex::push_octets;
+use crate::rows::{About, reads_as};
 use crate::words::is_told;
 use pcap_file::{read_capture, write_header, write_record};
 use std::alloc::Global;
@@ -82,39 +83,19 @@ fn file_of(rt: &impl Abort, alloc: Global, header: &str, more: &str) -> Vec<u8> 
     octets
 }
 
-// The file of a header and of the octets of a row has these frames or this fault, in the words of its type.
-fn agrees(rt: &impl Abort, alloc: Global, header: &str, more: &str, words: &str) {
+/// The file of a header and of the octets of a row has these frames or this fault, in the words of its type.
+pub fn agrees(rt: &impl Abort, alloc: Global, header: &str, more: &str, words: &str) {
     let octets = file_of(rt, alloc, header, more);
     let read = read_capture(alloc, octets.as_slice());
     is_told(rt, alloc, &read, words);
 }
 
-// A line agrees where it has words behind `= `; how many rows it is.
-fn reads_line(rt: &impl Abort, alloc: Global, header: &str, line: &str) -> usize {
-    match line.split_once("= ") {
-        Some((more, words)) => {
-            agrees(rt, alloc, header, more, words);
-            1
-        }
-        None => 0,
-    }
-}
-
-// Each of so many rows of a table agrees.
-fn read_as(rt: &impl Abort, alloc: Global, header: &str, table: &str, count: usize) {
-    let mut rows: usize = 0;
-    for line in table.lines() {
-        rows = rows.saturating_add(reads_line(rt, alloc, header, line));
-    }
-    assert!(rt; rows == count);
-}
-
 #[test]
 fn reads_files(rt: HostRuntime) {
     let alloc = rt.alloc();
-    read_as(&rt, alloc, "", FILES, 28);
-    read_as(&rt, alloc, HEADER, RECORDS, 12);
-    read_as(&rt, alloc, BIG, BIG_RECORDS, 2);
+    reads_as(&rt, alloc, About::Captures(""), FILES, 28);
+    reads_as(&rt, alloc, About::Captures(HEADER), RECORDS, 12);
+    reads_as(&rt, alloc, About::Captures(BIG), BIG_RECORDS, 2);
 }
 
 // The octets are a capture of one frame of 262,144 octets.

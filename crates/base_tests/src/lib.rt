@@ -30,6 +30,8 @@ mod rehearsals;
 #[cfg(test)]
 mod reports;
 #[cfg(test)]
+mod rows;
+#[cfg(test)]
 mod scenarios;
 #[cfg(test)]
 mod script_files;

@@ -1,5 +1,7 @@
 //! Small plans, with faults that were found by hand.
 
+use crate::rows;
+use crate::rows::reads_as;
 use crate::steps::{cut, number_of};
 use crate::words::is_told;
 use hvpls_spokes::role;
@@ -251,24 +253,14 @@ fn agrees(rt: &impl Abort, alloc: Global, about: About, wires: &str, words: &str
     tells_of(rt, alloc, about, &mut plan, words);
 }
 
-// A line agrees where it is a row; how many rows it is.
-fn reads_line(rt: &impl Abort, alloc: Global, line: &str) -> usize {
-    match line.split_once(" = ") {
-        Some((wires, words)) => {
-            agrees(rt, alloc, About::Fault, wires.trim(), words);
-            1
-        }
-        None => 0,
-    }
+/// A plan with these wires has the first fault of these words.
+pub fn has_first_fault(rt: &impl Abort, alloc: Global, wires: &str, words: &str) {
+    agrees(rt, alloc, About::Fault, wires, words);
 }
 
 #[test]
 fn finds_the_fault_of_a_wire(rt: HostRuntime) {
-    let mut rows: usize = 0;
-    for line in ROWS.lines() {
-        rows = rows.saturating_add(reads_line(&rt, rt.alloc(), line));
-    }
-    assert!(rt; rows == 13);
+    reads_as(&rt, rt.alloc(), rows::About::Plans, ROWS, 13);
 }
 
 #[test]

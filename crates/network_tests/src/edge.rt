@@ -3,7 +3,6 @@
 mod bridges;
 mod dialogue;
 mod edge_ends;
-mod packets;
 mod pings;
 mod plans;
 mod proposals;

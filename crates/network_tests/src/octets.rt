@@ -39,9 +39,3 @@ pub fn octets_of(rt: &impl Abort, alloc: Global, text: &str) -> Vec<u8> {
 pub fn is_same(one: &[u8], other: &[u8]) -> bool {
     one == other
 }
-
-/// The front of what was written is these octets, and what stands behind them stays 0xee.
-pub fn is_front(out: &[u8], octets: &[u8]) -> bool {
-    let (front, rest) = out.split_at(octets.len().min(out.len()));
-    is_same(front, octets) && rest.iter().all(|octet| *octet == 0xee)
-}

@@ -170,12 +170,17 @@ fn read_line(rt: &impl Abort, alloc: Global, labels: &mut Labels, line: &str) ->
     }
 }
 
+// A line comes to what it says.
+fn reads(rt: &impl Abort, alloc: Global, labels: &mut Labels, line: &str) {
+    let agrees = read_line(rt, alloc, labels, line.trim());
+    assert!(rt; agrees, "{line}");
+}
+
 // Each line of a script comes to what it says.
 fn plays(rt: &impl Abort, alloc: Global, script: &str) {
     let mut labels = Labels::open(rt, alloc, 16).expect(rt, "memory");
     for line in script.lines() {
-        let agrees = read_line(rt, alloc, &mut labels, line.trim());
-        assert!(rt; agrees, "{line}");
+        reads(rt, alloc, &mut labels, line);
     }
 }
 

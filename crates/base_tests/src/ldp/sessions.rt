@@ -1,7 +1,7 @@
 //! Sessions in their states, and what happens to them, in octets that were worked out by hand.
 
 use crate::hex::octets_of;
-use crate::ldp::tables::{About, reads_as};
+use crate::rows::{About, reads_as};
 use crate::steps::{event_of, number, rows_in};
 use crate::words::is_told;
 use ldp_codec::{DecodeFault, decode_pdu};

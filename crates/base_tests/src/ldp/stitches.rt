@@ -132,14 +132,23 @@ fn behind(rt: &impl Abort, points: &[Point]) -> Told {
     content
 }
 
+// B accepts a content with these points, or does not.
+fn are_accepted(rt: &impl Abort, points: &[Point], want: bool) {
+    accept(rt, &behind(rt, points), &[(B, want)]);
+}
+
 #[test]
-fn adds_points_and_accepts_two_others(rt: HostRuntime) {
-    is_behind(&rt, &passed_by(&rt, 2, ONE.as_slice()), &POINT);
-    passed_by(&rt, 0, THREE.as_slice());
+fn accepts_two_other_points(rt: HostRuntime) {
     assert!(rt; read_point(&POINT) == Ok(AT_B));
     for (points, want) in POINTS.as_slice() {
-        accept(&rt, &behind(&rt, points), &[(B, *want)]);
+        are_accepted(&rt, points, *want);
     }
+}
+
+#[test]
+fn adds_its_point_once(rt: HostRuntime) {
+    is_behind(&rt, &passed_by(&rt, 2, ONE.as_slice()), &POINT);
+    passed_by(&rt, 0, THREE.as_slice());
 }
 
 // An end that advertises the one label, and is bound to the other with this status.

@@ -1,7 +1,7 @@
 //! Values with octets that were worked out by hand, and octets that are no value, each row with its first fault.
 ghost use Rattle.std.specs.Prelude.{◌≤◌, length};
 
-use crate::ldp::tables::{About, reads_as};
+use crate::rows::{About, reads_as};
 use crate::words::{is_front, is_told, says};
 use net_base::{Field, List, Mac};
 use pw_tlvs::{

@@ -1,6 +1,6 @@
 //! One PDU for each fault, with its place and its field.
 
-use crate::ldp::tables::{About, reads_as};
+use crate::rows::{About, reads_as};
 use crate::words::says;
 use ldp_codec::{DecodeFault, decode_pdu};
 use net_base::Field;

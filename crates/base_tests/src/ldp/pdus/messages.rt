@@ -1,6 +1,6 @@
 //! Messages that were worked out by hand, both ways.
 
-use crate::ldp::tables::{About, reads_as};
+use crate::rows::{About, reads_as};
 
 // Messages of sessions. A Notification of a message of type 0x0201 with ID 5, fatal, of data 0x0a; a Hello with hold time 15 and
 // the T bit; an Initialization as an edge writes it; the address 10.0.0.1; and a withdrawal of three octets of the family 2.

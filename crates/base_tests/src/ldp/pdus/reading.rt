@@ -1,6 +1,6 @@
 //! Messages that are read, in the words of their type.
 
-use crate::ldp::tables::{About, reads_as};
+use crate::rows::{About, reads_as};
 
 // A message of another type, with its U bit, and messages that are not processed, with the first reason.
 const UNPROCESSED: &str = "

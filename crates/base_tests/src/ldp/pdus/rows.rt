@@ -2,7 +2,7 @@
 ghost use Rattle.std.specs.Prelude.{◌≡◌, ◌≤◌, ◌<◌, length, true};
 ghost use Rattle.ldp_grammar.specs.Written.{address_octets, list_length, mac_count, macs_length, message_octets, writable};
 
-use crate::ldp::tables::About;
+use crate::rows::About;
 use crate::words::{is_front, is_told};
 use ldp_codec::{DecodeFault, decode_pdu, encode_into, view_pdu};
 use ldp_grammar::{AddressList, LdpId, Message, Pdu, is_writable, message_size};

@@ -1,8 +1,9 @@
-//! Tables of rows: each has octets, and behind `= ` what they come to. Other lines are words for a reader.
+//! Tables of rows: each has octets or a step, and behind `= ` what they come to. Other lines are words for a reader.
 
 use crate::hex::octets_of;
 use crate::ldp::pdus::rows as pdus;
 use crate::ldp::values;
+use crate::{captures, frames, plans};
 use std::alloc::Global;
 use std::process::Abort;
 
@@ -21,10 +22,15 @@ pub enum About {
     Points,
     Statuses,
     Macs,
+    /// The octets behind this header of a capture: its frames or its fault.
+    Captures(&'static str),
+    /// The steps of one frame, and the wires of a plan: its first fault.
+    Frames,
+    Plans,
 }
 
-// The octets of a row agree.
-fn agrees(rt: &impl Abort, alloc: Global, about: About, octets: &[u8], words: &str) {
+// Octets agree.
+fn are_octets(rt: &impl Abort, alloc: Global, about: About, octets: &[u8], words: &str) {
     match about {
         About::Pdus | About::BothWays | About::OneWay => {
             pdus::agrees(rt, alloc, about, octets, words)
@@ -33,17 +39,27 @@ fn agrees(rt: &impl Abort, alloc: Global, about: About, octets: &[u8], words: &s
     }
 }
 
-// The digits of a row are octets that agree.
-fn reads_row(rt: &impl Abort, alloc: Global, about: About, digits: &str, words: &str) {
+// Digits are octets that agree.
+fn are_digits(rt: &impl Abort, alloc: Global, about: About, digits: &str, words: &str) {
     let octets = octets_of(rt, alloc, digits);
-    agrees(rt, alloc, about, octets.as_slice(), words);
+    are_octets(rt, alloc, about, octets.as_slice(), words);
+}
+
+// What stands before and behind `= ` in a row agrees.
+fn agrees(rt: &impl Abort, alloc: Global, about: About, row: &str, words: &str) {
+    match about {
+        About::Captures(header) => captures::agrees(rt, alloc, header, row, words),
+        About::Frames => frames::agrees(rt, alloc, row.trim(), words),
+        About::Plans => plans::has_first_fault(rt, alloc, row.trim(), words),
+        _ => are_digits(rt, alloc, about, row, words),
+    }
 }
 
 // A line agrees where it is a row; how many rows it is.
 fn reads_line(rt: &impl Abort, alloc: Global, about: About, line: &str) -> usize {
     match line.split_once("= ") {
-        Some((digits, words)) => {
-            reads_row(rt, alloc, about, digits, words);
+        Some((row, words)) => {
+            agrees(rt, alloc, about, row, words);
             1
         }
         None => 0,
