@@ -1,6 +1,6 @@
 -- What `discover` answers by what its stages say.
 use Rattle.std.proofs.Common.{◌≡◌, ◌≤◌, ◌<◌, ◌+◌, ◌++◌, ◌∷◌, ◌∙◌, ℕ, zero, suc, Bool, true, false, List, [], Option, Some, None, Ok, Err, length, inl, inr, arith, refl, ap, sym, subst, if◌then◌else◌}
-use Rattle.std.specs.List.{All}
+use Rattle.std.specs.List.{All, AllByRecursion}
 use Rattle.std.proofs.lemmas.List.{append-nil}
 use Rattle.std.proofs.lemmas.List.Elements.{All-append, All-cons, All-head, All-nil, All-tail}
 use Rattle.net_base.specs.declared.plan.Plan.{Plan}
@@ -65,8 +65,7 @@ events_joined (Tells told ∷ acts) more = events_joined acts more
 
 -- both edges of each adjacency that ends are below this place
 abbrev AreBelow : ℕ → List Lapse → Type 0
-AreBelow most [] = Unit {0}
-AreBelow most (lapse ∷ lapses) = ((lapse.edge.0 < most) × (lapse.peer.0 < most)) × AreBelow most lapses
+AreBelow most lapses = AllByRecursion (λ (lapse : Lapse). (lapse.edge.0 < most) × (lapse.peer.0 < most)) lapses
 
 with_below : (most : ℕ) (ends : ℕ → Bool) (edge : EdgeId) (place count : ℕ) (behind : List Lapse) → edge.0 < most → place + count ≤ most → AreBelow most behind
     → AreBelow most (lapses_with ends edge place count behind)

@@ -4,6 +4,8 @@ use Rattle.std.specs.Str.{bytes_eq}
 use Rattle.command_text.specs.Words.{decimal_from}
 use Rattle.vplsnet.specs.declared.request.Request.{Request}
 use Rattle.vplsnet.specs.declared.request.Request.TheVariants as request
+use Rattle.vplsnet.specs.declared.run_request.RunRequest.{RunRequest}
+use Rattle.vplsnet.specs.declared.run_request.RunRequest.TheVariants as runs
 
 -- a command with what its words name
 pub data Asked : Type 0 where
@@ -17,13 +19,17 @@ pub data Asked : Type 0 where
   Switchover : (file script : List ℕ) → Asked
   Audit : (file report : List ℕ) → Asked
 
+-- a request of a run as it was asked for
+abbrev pub run_asked_by : RunRequest → Asked
+run_asked_by (runs.Replay file) = Replay file.now
+run_asked_by (runs.Tables file) = Tables file.now
+run_asked_by (runs.Capture file circuit) = Capture file.now circuit.now
+run_asked_by (runs.Rehearse seed) = Rehearse seed
+
 -- a request as it was asked for
 abbrev pub asked_by : Request → Asked
-asked_by (request.Replay file) = Replay file.now
-asked_by (request.Tables file) = Tables file.now
-asked_by (request.Capture file circuit) = Capture file.now circuit.now
+asked_by (request.Run run) = run_asked_by run
 asked_by (request.Decode file) = Decode file.now
-asked_by (request.Rehearse seed) = Rehearse seed
 asked_by (request.Migrate file) = Migrate file.now
 asked_by (request.Discover file script) = Discover file.now script.now
 asked_by (request.Switchover file script) = Switchover file.now script.now

@@ -17,7 +17,7 @@ use Rattle.vplsnet.specs.declared.audit_rule.AuditRule.{AuditRule}
 use Rattle.vplsnet.specs.declared.outcome.Outcome.{Outcome}
 use Rattle.vplsnet.specs.declared.outcome.Outcome.TheVariants.{Done, WriteFault, AuditRefused, NoMemory}
 use Rattle.vplsnet.specs.Answers.{run_text}
-use Rattle.vplsnet.specs.Asked.{Asked, Replay, Tables, Capture, Decode, Rehearse, Migrate, Discover, Switchover, Audit}
+use Rattle.vplsnet.specs.Asked.{Asked}
 use Rattle.vplsnet.specs.Audit.{stop_of, yes}
 use Rattle.vplsnet.specs.Decode.{AppendsPart, IsDecoding}
 use Rattle.vplsnet.specs.Discover.{IsDiscoveryRun, discovery_text}
@@ -127,15 +127,3 @@ pub record TellsRule (plan : Plan) (octets : List ℕ) (old now : Written) (netw
 -- one of the two, or memory was refused before
 abbrev pub EndsAudit : Plan → List ℕ → Written → Written → Option NetLists → Outcome → Type 0
 EndsAudit plan octets old now network outcome = TellsYes plan octets old now network outcome ⊎ TellsRule plan octets old now network outcome ⊎ WritesNone old now network outcome
-
--- the command runs a scenario
-abbrev pub RunsScenario : Asked → Type 0
-RunsScenario (Replay file) = Unit {0}
-RunsScenario (Tables file) = Unit {0}
-RunsScenario (Capture file circuit) = Unit {0}
-RunsScenario (Rehearse seed) = Unit {0}
-RunsScenario (Decode file) = ⊥
-RunsScenario (Migrate file) = ⊥
-RunsScenario (Discover file script) = ⊥
-RunsScenario (Switchover file script) = ⊥
-RunsScenario (Audit file report) = ⊥

@@ -2,28 +2,21 @@
 ghost use Rattle.std.specs.{Prelude.{◌≡◌, ◌<◌, length, option_map, position, IfSome}, Str.{bytes_eq}};
 ghost use Rattle.net_base.specs.plan.Accepted.{IsChecked};
 ghost use Rattle.text_lines.specs.Written.{PutsOn};
-ghost use Rattle.vplsnet.specs.{Asked.{asked_by}, Capture.{circuit_of as place_of, lacks_circuit, lacking as lacks, left_at}};
+ghost use Rattle.vplsnet.specs.{Asked.{run_asked_by}, Capture.{circuit_of as place_of, lacks_circuit, lacking as lacks, left_at}};
 
-use crate::request::Request;
+use crate::run_request::RunRequest;
 use capture_text::put_capture;
 use net_base::{CircuitId, CircuitPlan, Failed, Plan, Sink};
 use psn_net::Network;
 use text_lines::Page;
 
 /// The circuit that a request names and the plan lacks.
-pub fn missing_circuit<'a>(request: Request<'a>, plan: &Plan) -> Option<&'a str>
-    ensures { option_map (λ circuit. circuit.now) result ≡ lacks_circuit (asked_by request.entry) plan.now }
+pub fn missing_circuit<'a>(request: RunRequest<'a>, plan: &Plan) -> Option<&'a str>
+    ensures { option_map (λ circuit. circuit.now) result ≡ lacks_circuit (run_asked_by request.entry) plan.now }
 {
     match request {
-        Request::Capture { circuit, .. } => lacking(plan, circuit),
-        Request::Replay { .. }
-        | Request::Tables { .. }
-        | Request::Decode { .. }
-        | Request::Rehearse { .. }
-        | Request::Migrate { .. }
-        | Request::Discover { .. }
-        | Request::Switchover { .. }
-        | Request::Audit { .. } => None,
+        RunRequest::Capture { circuit, .. } => lacking(plan, circuit),
+        RunRequest::Replay { .. } | RunRequest::Tables { .. } | RunRequest::Rehearse { .. } => None,
     }
 }
 

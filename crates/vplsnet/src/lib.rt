@@ -25,6 +25,8 @@ mod rehearse;
 mod replay;
 mod request;
 pub mod run;
+mod run_files;
+mod run_request;
 mod run_text;
 mod scenario_file;
 mod scenario_run;

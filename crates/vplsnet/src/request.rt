@@ -2,18 +2,15 @@
 ghost use Rattle.std.specs.Prelude.{◌≡◌, map, option_map, string_bytes};
 ghost use Rattle.vplsnet.specs.Asked.{asked, asked_by, is_plain_argument, one_word_command, two_word_command};
 
+use crate::run_request::RunRequest;
 use command_text::decimal::decimal;
 use command_text::is_same;
 
 /// A command with what its words name.
 #[derive(Clone, Copy)]
 pub enum Request<'a> {
-    /// `replay FILE`: the report of the run of the scenario in FILE.
-    Replay { file: &'a str },
-    /// `tables FILE`: the tables of the network after this run.
-    Tables { file: &'a str },
-    /// `capture FILE CIRCUIT`: a capture of the frames that left the circuit in this run.
-    Capture { file: &'a str, circuit: &'a str },
+    /// A command that runs a scenario.
+    Run(RunRequest<'a>),
     /// `decode FILE`: a line for each LDP message of the stream in FILE.
     Decode { file: &'a str },
     /// `migrate FILE`: the scenario in FILE as a text of version 2.
@@ -24,8 +21,6 @@ pub enum Request<'a> {
     Switchover { file: &'a str, script: &'a str },
     /// `audit FILE REPORT`: whether the report in REPORT meets the rules for the plan of FILE's scenario.
     Audit { file: &'a str, report: &'a str },
-    /// `rehearse SEED`: two lines on the run of the scenario that the seed makes.
-    Rehearse { seed: u64 },
 }
 
 /// What the words ask for; `None` exactly where they are no row of the table of commands. The words are those behind the
@@ -50,14 +45,14 @@ fn one_word_request<'a>(command: &str, word: &'a str) -> Option<Request<'a>>
     ensures { option_map asked_by result ≡ one_word_command command.now word.now }
 {
     if is_same(command, "replay") {
-        Some(Request::Replay { file: word })
+        Some(Request::Run(RunRequest::Replay { file: word }))
     } else if is_same(command, "tables") {
-        Some(Request::Tables { file: word })
+        Some(Request::Run(RunRequest::Tables { file: word }))
     } else if is_same(command, "decode") {
         Some(Request::Decode { file: word })
     } else if is_same(command, "rehearse") {
         match decimal(0, u64::MAX, word.as_bytes()) {
-            Some(seed) => Some(Request::Rehearse { seed }),
+            Some(seed) => Some(Request::Run(RunRequest::Rehearse { seed })),
             None => None,
         }
     } else if is_same(command, "migrate") {
@@ -72,10 +67,10 @@ fn two_word_request<'a>(command: &str, file: &'a str, word: &'a str) -> Option<R
     ensures { option_map asked_by result ≡ two_word_command command.now file.now word.now }
 {
     if is_same(command, "capture") {
-        Some(Request::Capture {
+        Some(Request::Run(RunRequest::Capture {
             file,
             circuit: word,
-        })
+        }))
     } else if is_same(command, "discover") {
         Some(Request::Discover { file, script: word })
     } else if is_same(command, "switchover") {

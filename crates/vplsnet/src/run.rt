@@ -1,11 +1,7 @@
 //! All that the program does.
-ghost use Rattle.std.specs.Prelude.{◌≡◌, ◌↔◌, [], All, None, Some, map, string_bytes, IfErr, IfOk, IfSome};
-ghost use Rattle.net_base.specs.{plan.Accepted.{IsChecked}, plan.Planned.{IsFrame}};
-ghost use Rattle.command_text.specs.Planned.{IsPlanned};
-ghost use Rattle.text_lines.specs.Written.{lines_written};
-ghost use Rattle.vplsnet.specs.{Answers.{Completes, Finishes, IsRefused}, Around.{Has, around, gained}, Asked.{asked, asked_by}};
-ghost use Rattle.vplsnet.specs.{Finish.{exit_status}, Inputs.{ComesTo, Run, Works}, Reads.{GainsReads, IsReadOfNext, MayRead}};
-ghost use Rattle.vplsnet.specs.Writing.{EndsRun, RunsScenario};
+ghost use Rattle.std.specs.Prelude.{◌≡◌, ◌↔◌, None, map, string_bytes, IfSome};
+ghost use Rattle.vplsnet.specs.{Answers.{Completes, Finishes}, Around.{around, gained}, Asked.{asked}, Finish.{exit_status}};
+ghost use Rattle.vplsnet.specs.Reads.{GainsReads, MayRead};
 
 use crate::audit::audit_files;
 use crate::decode::decode_file;
@@ -14,17 +10,10 @@ use crate::finish::Finish;
 use crate::migrate::migrate_file;
 use crate::outcome::Outcome;
 use crate::request::{Request, request_of};
-use crate::run_text::put_run;
-use crate::scenario_file::scenario_of;
-use crate::scenario_run::{outcome_of, run_scenario};
+use crate::run_files::run_files;
 use crate::switchover::switchover_files;
-use crate::types::see_entries;
-use crate::work::Work;
-use net_base::{List, NoMemory, Shelf, Sink};
-use rehearsal::rehearsal;
+use net_base::{Shelf, Sink};
 use std::alloc::Global;
-use tables_text::Sorting;
-use text_lines::Page;
 
 /// Does what the words ask, over a shelf of files and a sink for the text. What is said of files is said of all files with which the
 /// answers of the shelf agree. `Usage` comes exactly where the words are no row below.
@@ -59,7 +48,7 @@ use text_lines::Page;
 ///
 /// `ReadFault` comes only where the shelf's count for the name rose, and `WriteFault` only where the sink's count rose; a front of the
 /// text was then taken. `NoMemory` may come at any time before the writing, and of `decode` also within it.
-#[tactic(auto, using(crate::proofs::AnswerLemmas::refused_answers, crate::proofs::AnswerLemmas::run_answers, crate::proofs::AnswerLemmas::word_steps, crate::proofs::ReadLemmas::run_reads))]
+#[tactic(auto, using(crate::proofs::AnswerLemmas::word_steps, crate::proofs::ReadLemmas::run_reads))]
 pub fn run<F: Shelf, K: Sink>(
     alloc: Global,
     words: &[String],
@@ -81,85 +70,12 @@ pub fn run<F: Shelf, K: Sink>(
         Some(request) => request,
         None => return Finish::without_run(Outcome::Usage),
     };
-    if let Request::Decode { file } = request {
-        return decode_file(alloc, file, shelf, sink);
-    }
-    if let Request::Migrate { file } = request {
-        return migrate_file(alloc, file, shelf, sink);
-    }
-    if let Request::Discover { file, script } = request {
-        return discover_files(alloc, file, script, shelf, sink);
-    }
-    if let Request::Switchover { file, script } = request {
-        return switchover_files(alloc, file, script, shelf, sink);
-    }
-    if let Request::Audit { file, report } = request {
-        return audit_files(alloc, file, report, shelf, sink);
-    }
-    match work_of(alloc, request, shelf) {
-        Ok(work) => finish_work(alloc, request, work, sink),
-        Err(outcome) => Finish::without_run(outcome),
-    }
-}
-
-// The scenario of a request that runs one, with the captures that it plays, or the outcome of what is refused first.
-#[tactic(auto, using(crate::proofs::ScenarioFileLemmas::work_steps, crate::proofs::ReadLemmas::reads_none))]
-fn work_of<F: Shelf>(alloc: Global, request: Request<'_>, shelf: &mut F) -> Result<Work, Outcome>
-    requires runs { RunsScenario (asked_by request) }
-    ensures come { IfOk result (λ work. ComesTo (Has (gained (F.reads shelf.old) (F.reads shelf.new))) (asked_by request.entry) (Works (Run work.scenario work.captures))) }
-    ensures checked { IfOk result (λ work. IsChecked work.scenario.plan) }
-    ensures planned { IfOk result (λ work. All (IsPlanned work.scenario.plan) work.scenario.commands) }
-    ensures frames { IfOk result (λ work. All (All IsFrame) work.captures) }
-    ensures refused { IfErr result (IsRefused (gained (F.reads shelf.old) (F.reads shelf.new)) (F.faults shelf.old) (F.faults shelf.new) (asked_by request.entry)) }
-    ensures reads { GainsReads (IsReadOfNext (Has (gained (F.reads shelf.old) (F.reads shelf.new))) (asked_by request.entry)) (F.reads shelf.old) (F.reads shelf.new) }
-{
     match request {
-        Request::Replay { file } => scenario_of(alloc, shelf, request, file),
-        Request::Tables { file } => scenario_of(alloc, shelf, request, file),
-        Request::Capture { file, .. } => scenario_of(alloc, shelf, request, file),
-        Request::Rehearse { seed } => match rehearsal(alloc, seed) {
-            Ok(scenario) => Ok(Work {
-                scenario,
-                captures: List::new(alloc),
-            }),
-            Err(NoMemory) => Err(Outcome::NoMemory),
-        },
-        Request::Decode { .. }
-        | Request::Migrate { .. }
-        | Request::Discover { .. }
-        | Request::Switchover { .. }
-        | Request::Audit { .. } => unreachable!(),
-    }
-}
-
-// Runs a scenario, and writes what the request asks of the run.
-#[tactic(auto, using(crate::proofs::RunLemmas::is_scenario_run, crate::proofs::RunLemmas::checked_as, crate::proofs::WritingLemmas::flush_steps, crate::proofs::WritingLemmas::run_steps, crate::proofs::WritingLemmas::text_steps))]
-fn finish_work<K: Sink>(alloc: Global, request: Request<'_>, work: Work, sink: &mut K) -> Finish
-    requires checked { IsChecked work.scenario.plan }
-    requires planned { All (IsPlanned work.scenario.plan) work.scenario.commands }
-    requires frames { All (All IsFrame) work.captures }
-    ensures status { result.status ≡ exit_status result.outcome }
-    ensures ends { EndsRun work.scenario work.captures (asked_by request.entry) (lines_written (K.taken sink.old) (K.faults sink.old) []) (lines_written (K.taken sink.new) (K.faults sink.new) []) result.network result.outcome }
-{
-    let mut page = match Page::new(alloc) {
-        Ok(page) => page,
-        Err(NoMemory) => return Finish::without_run(Outcome::NoMemory),
-    };
-    let mut sorting = match Sorting::new(alloc) {
-        Ok(sorting) => sorting,
-        Err(NoMemory) => return Finish::without_run(Outcome::NoMemory),
-    };
-    let run = match run_scenario(alloc, work) {
-        Ok(run) => run,
-        Err(NoMemory) => return Finish::without_run(Outcome::NoMemory),
-    };
-    see_entries(&run.network);
-    match put_run(&mut page, sink, &mut sorting, request, &run) {
-        Ok(()) => {}
-        Err(_) => return Finish::after_run(Outcome::WriteFault, Some(run.network)),
-    }
-    match page.flush(sink) {
-        Ok(()) => Finish::after_run(outcome_of(run.stop), Some(run.network)),
-        Err(_) => Finish::after_run(Outcome::WriteFault, Some(run.network)),
+        Request::Run(request) => run_files(alloc, request, shelf, sink),
+        Request::Decode { file } => decode_file(alloc, file, shelf, sink),
+        Request::Migrate { file } => migrate_file(alloc, file, shelf, sink),
+        Request::Discover { file, script } => discover_files(alloc, file, script, shelf, sink),
+        Request::Switchover { file, script } => switchover_files(alloc, file, script, shelf, sink),
+        Request::Audit { file, report } => audit_files(alloc, file, report, shelf, sink),
     }
 }

@@ -2,7 +2,7 @@
 ghost use Rattle.std.specs.Prelude.{◌≡◌, All, IfErr, IfOk, Ok};
 ghost use Rattle.net_base.specs.{outside.Outside.{NeverFall}, plan.Accepted.{IsChecked}, plan.Planned.{IsFrame}};
 ghost use Rattle.command_text.specs.Planned.{IsPlanned};
-ghost use Rattle.vplsnet.specs.{Answers.{IsRefused}, Around.{Has, gained}, Asked.{asked_by}, Inputs.{ComesTo, Run, Works, scenario_limit}};
+ghost use Rattle.vplsnet.specs.{Answers.{IsRefused}, Around.{Has, gained}, Asked.{run_asked_by}, Inputs.{ComesTo, Run, Works, scenario_limit}};
 ghost use Rattle.vplsnet.specs.Reads.{GainsReads, IsCaptureRead, IsReadOf, IsReadOfNext};
 ghost use Rattle.vplsnet.specs.ScenarioFile.{HasAll, HasNoScenario, IsOfFile, LacksSome, ReadsScenario, outcome_of_fault};
 
@@ -10,7 +10,7 @@ use crate::capture::missing_circuit;
 use crate::captures::captures_of;
 use crate::named_file::octets_of;
 use crate::outcome::Outcome;
-use crate::request::Request;
+use crate::run_request::RunRequest;
 use crate::work::Work;
 use net_base::{Shelf, Word};
 use scenario_text::{Scenario, ScenarioFault, read_scenario};
@@ -50,16 +50,16 @@ pub fn file_scenario<F: Shelf>(
 pub fn scenario_of<F: Shelf>(
     alloc: Global,
     shelf: &mut F,
-    request: Request<'_>,
+    request: RunRequest<'_>,
     file: &str,
 ) -> Result<Work, Outcome>
-    requires { ReadsScenario (asked_by request) file.now }
-    ensures come { IfOk result (λ work. ComesTo (Has (gained (F.reads shelf.old) (F.reads shelf.new))) (asked_by request.entry) (Works (Run work.scenario work.captures))) }
+    requires { ReadsScenario (run_asked_by request) file.now }
+    ensures come { IfOk result (λ work. ComesTo (Has (gained (F.reads shelf.old) (F.reads shelf.new))) (run_asked_by request.entry) (Works (Run work.scenario work.captures))) }
     ensures checked { IfOk result (λ work. IsChecked work.scenario.plan) }
     ensures planned { IfOk result (λ work. All (IsPlanned work.scenario.plan) work.scenario.commands) }
     ensures frames { IfOk result (λ work. All (All IsFrame) work.captures) }
-    ensures refused { IfErr result (IsRefused (gained (F.reads shelf.old) (F.reads shelf.new)) (F.faults shelf.old) (F.faults shelf.new) (asked_by request.entry)) }
-    ensures reads { GainsReads (IsReadOfNext (Has (gained (F.reads shelf.old) (F.reads shelf.new))) (asked_by request.entry)) (F.reads shelf.old) (F.reads shelf.new) }
+    ensures refused { IfErr result (IsRefused (gained (F.reads shelf.old) (F.reads shelf.new)) (F.faults shelf.old) (F.faults shelf.new) (run_asked_by request.entry)) }
+    ensures reads { GainsReads (IsReadOfNext (Has (gained (F.reads shelf.old) (F.reads shelf.new))) (run_asked_by request.entry)) (F.reads shelf.old) (F.reads shelf.new) }
 {
     match file_scenario(alloc, shelf, file) {
         Ok(scenario) => with_captures(alloc, shelf, request, scenario),
@@ -84,14 +84,14 @@ fn refused(fault: ScenarioFault) -> Outcome
 fn with_captures<F: Shelf>(
     alloc: Global,
     shelf: &mut F,
-    request: Request<'_>,
+    request: RunRequest<'_>,
     scenario: Scenario,
 ) -> Result<Work, Outcome>
     ensures same { IfOk result (λ work. work.scenario ≡ scenario) }
-    ensures all { IfOk result (λ work. HasAll (gained (F.reads shelf.old) (F.reads shelf.new)) (asked_by request.entry) scenario work.captures) }
+    ensures all { IfOk result (λ work. HasAll (gained (F.reads shelf.old) (F.reads shelf.new)) (run_asked_by request.entry) scenario work.captures) }
     ensures frames { IfOk result (λ work. All (All IsFrame) work.captures) }
-    ensures lacks { IfErr result (LacksSome (gained (F.reads shelf.old) (F.reads shelf.new)) (F.faults shelf.old) (F.faults shelf.new) (asked_by request.entry) scenario) }
-    ensures reads { GainsReads (IsCaptureRead (gained (F.reads shelf.old) (F.reads shelf.new)) (asked_by request.entry) scenario) (F.reads shelf.old) (F.reads shelf.new) }
+    ensures lacks { IfErr result (LacksSome (gained (F.reads shelf.old) (F.reads shelf.new)) (F.faults shelf.old) (F.faults shelf.new) (run_asked_by request.entry) scenario) }
+    ensures reads { GainsReads (IsCaptureRead (gained (F.reads shelf.old) (F.reads shelf.new)) (run_asked_by request.entry) scenario) (F.reads shelf.old) (F.reads shelf.new) }
 {
     if let Some(circuit) = missing_circuit(request, &scenario.plan) {
         return match Word::new(alloc, circuit) {

@@ -1,0 +1,95 @@
+//! The commands that run a scenario.
+ghost use Rattle.std.specs.Prelude.{◌≡◌, [], All, IfErr, IfOk};
+ghost use Rattle.net_base.specs.{plan.Accepted.{IsChecked}, plan.Planned.{IsFrame}};
+ghost use Rattle.command_text.specs.Planned.{IsPlanned};
+ghost use Rattle.text_lines.specs.Written.{lines_written};
+ghost use Rattle.vplsnet.specs.{Answers.{IsRefused, SaysOutcome}, Around.{Has, around, gained}, Asked.{run_asked_by}};
+ghost use Rattle.vplsnet.specs.{Finish.{exit_status}, Inputs.{ComesTo, Run, Works}, Reads.{GainsReads, IsReadOfNext}, Writing.{EndsRun}};
+
+use crate::finish::Finish;
+use crate::outcome::Outcome;
+use crate::run_request::RunRequest;
+use crate::run_text::put_run;
+use crate::scenario_file::scenario_of;
+use crate::scenario_run::{outcome_of, run_scenario};
+use crate::types::see_entries;
+use crate::work::Work;
+use net_base::{List, NoMemory, Shelf, Sink};
+use rehearsal::rehearsal;
+use std::alloc::Global;
+use tables_text::Sorting;
+use text_lines::Page;
+
+/// Reads the scenario of a request with the captures that it plays, runs it, and writes what the request asks of the run.
+#[tactic(auto, using(crate::proofs::AnswerLemmas::refused_answers, crate::proofs::AnswerLemmas::run_answers))]
+pub fn run_files<F: Shelf, K: Sink>(
+    alloc: Global,
+    request: RunRequest<'_>,
+    shelf: &mut F,
+    sink: &mut K,
+) -> Finish
+    ensures status { result.status ≡ exit_status result.outcome }
+    ensures answers { SaysOutcome (around F.reads F.faults K.taken K.faults shelf.old sink.old shelf.new sink.new) (run_asked_by request.entry) result.network result.outcome }
+    ensures reads { GainsReads (IsReadOfNext (Has (gained (F.reads shelf.old) (F.reads shelf.new))) (run_asked_by request.entry)) (F.reads shelf.old) (F.reads shelf.new) }
+{
+    match work_of(alloc, request, shelf) {
+        Ok(work) => finish_work(alloc, request, work, sink),
+        Err(outcome) => Finish::without_run(outcome),
+    }
+}
+
+// The scenario of a request, with the captures that it plays, or the outcome of what is refused first.
+#[tactic(auto, using(crate::proofs::ScenarioFileLemmas::work_steps, crate::proofs::ReadLemmas::reads_none))]
+fn work_of<F: Shelf>(alloc: Global, request: RunRequest<'_>, shelf: &mut F) -> Result<Work, Outcome>
+    ensures come { IfOk result (λ work. ComesTo (Has (gained (F.reads shelf.old) (F.reads shelf.new))) (run_asked_by request.entry) (Works (Run work.scenario work.captures))) }
+    ensures checked { IfOk result (λ work. IsChecked work.scenario.plan) }
+    ensures planned { IfOk result (λ work. All (IsPlanned work.scenario.plan) work.scenario.commands) }
+    ensures frames { IfOk result (λ work. All (All IsFrame) work.captures) }
+    ensures refused { IfErr result (IsRefused (gained (F.reads shelf.old) (F.reads shelf.new)) (F.faults shelf.old) (F.faults shelf.new) (run_asked_by request.entry)) }
+    ensures reads { GainsReads (IsReadOfNext (Has (gained (F.reads shelf.old) (F.reads shelf.new))) (run_asked_by request.entry)) (F.reads shelf.old) (F.reads shelf.new) }
+{
+    match request {
+        RunRequest::Replay { file } => scenario_of(alloc, shelf, request, file),
+        RunRequest::Tables { file } => scenario_of(alloc, shelf, request, file),
+        RunRequest::Capture { file, .. } => scenario_of(alloc, shelf, request, file),
+        RunRequest::Rehearse { seed } => match rehearsal(alloc, seed) {
+            Ok(scenario) => Ok(Work {
+                scenario,
+                captures: List::new(alloc),
+            }),
+            Err(NoMemory) => Err(Outcome::NoMemory),
+        },
+    }
+}
+
+// Runs a scenario, and writes what the request asks of the run.
+#[tactic(auto, using(crate::proofs::RunLemmas::is_scenario_run, crate::proofs::RunLemmas::checked_as, crate::proofs::WritingLemmas::flush_steps, crate::proofs::WritingLemmas::run_steps, crate::proofs::WritingLemmas::text_steps))]
+fn finish_work<K: Sink>(alloc: Global, request: RunRequest<'_>, work: Work, sink: &mut K) -> Finish
+    requires checked { IsChecked work.scenario.plan }
+    requires planned { All (IsPlanned work.scenario.plan) work.scenario.commands }
+    requires frames { All (All IsFrame) work.captures }
+    ensures status { result.status ≡ exit_status result.outcome }
+    ensures ends { EndsRun work.scenario work.captures (run_asked_by request.entry) (lines_written (K.taken sink.old) (K.faults sink.old) []) (lines_written (K.taken sink.new) (K.faults sink.new) []) result.network result.outcome }
+{
+    let mut page = match Page::new(alloc) {
+        Ok(page) => page,
+        Err(NoMemory) => return Finish::without_run(Outcome::NoMemory),
+    };
+    let mut sorting = match Sorting::new(alloc) {
+        Ok(sorting) => sorting,
+        Err(NoMemory) => return Finish::without_run(Outcome::NoMemory),
+    };
+    let run = match run_scenario(alloc, work) {
+        Ok(run) => run,
+        Err(NoMemory) => return Finish::without_run(Outcome::NoMemory),
+    };
+    see_entries(&run.network);
+    match put_run(&mut page, sink, &mut sorting, request, &run) {
+        Ok(()) => {}
+        Err(_) => return Finish::after_run(Outcome::WriteFault, Some(run.network)),
+    }
+    match page.flush(sink) {
+        Ok(()) => Finish::after_run(outcome_of(run.stop), Some(run.network)),
+        Err(_) => Finish::after_run(Outcome::WriteFault, Some(run.network)),
+    }
+}
