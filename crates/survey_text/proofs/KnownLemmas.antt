@@ -1,9 +1,9 @@
 -- What is known of the services of a network, and of each fault alone.
-use Rattle.std.proofs.Common.{◌≡◌, ◌≤◌, ◌<◌, ◌+◌, ◌++◌, ◌∙◌, ℕ, suc, Bool, true, false, List, [], ◌∷◌, cond, length, nat_eq, slice_index_or, refl, ap, arith, subst, sym}
+use Rattle.std.proofs.Common.{◌≡◌, ◌<◌, ◌+◌, ◌++◌, ◌∙◌, ℕ, suc, Bool, true, false, List, [], ◌∷◌, cond, length, nat_eq, slice_index_or, refl, ap, arith, subst, sym}
 use Rattle.std.proofs.lemmas.Bool.{eqb-true}
 use Rattle.std.proofs.lemmas.Bool.Decides.{nat_tests}
 use Rattle.std.proofs.lemmas.List.{length_push}
-use Rattle.net_values.proofs.NumberLemmas.{at_start, step_over}
+use Rattle.net_values.proofs.NumberLemmas.{at_start}
 use Rattle.net_values.proofs.RowLemmas.{index_end, same_read}
 use Rattle.net_base.specs.declared.plan.Plan.{Plan}
 use Rattle.net_base.specs.declared.plan.places.ServiceId.{ServiceId}

@@ -9,7 +9,6 @@ use Rattle.net_values.proofs.NumberLemmas.{at_start, step_over}
 use Rattle.net_values.proofs.RowLemmas.{index_end, same_read, set_length}
 use Rattle.net_base.specs.declared.plan.Plan.{Plan}
 use Rattle.net_base.specs.declared.plan.edge_plan.EdgePlan.{EdgePlan}
-use Rattle.net_base.specs.declared.plan.places.ServiceId.{ServiceId}
 use Rattle.net_base.specs.declared.plan.service_plan.ServicePlan.{ServicePlan}
 use Rattle.net_base.specs.plan.Accepted.{IsChecked}
 use Rattle.network_model.specs.State.{NetworkState}
@@ -20,7 +19,7 @@ use Rattle.survey_text.specs.declared.service.Service.{Service}
 use Rattle.survey_text.specs.declared.sites.Sites.{Sites}
 use Rattle.survey_text.specs.Cases.{changes_beside, found_at, is_told_beside, is_told_in, is_told_of, lost_at, sum_over}
 use Rattle.survey_text.specs.Relations.{any_edge, any_pair, find, lose, pairs_where}
-use Rattle.survey_text.specs.Surveys.{AreLeft, AreLess, AreServices, AreSites, IsLeft, IsLess, IsService, LeavesAll, LeavesOut, any_changed, count_in, is_changed}
+use Rattle.survey_text.specs.Surveys.{AreLeft, AreLess, AreServices, AreSites, IsLeft, IsLess, LeavesAll, LeavesOut, any_changed, count_in, is_changed}
 use Rattle.survey_text.proofs.ChangeLemmas.{left_more}
 
 -- ---- lists that are made place by place

@@ -25,6 +25,7 @@ mod told;
 mod visits;
 mod words;
 mod work;
+mod worked_case;
 
 pub use cases::count_cases;
 pub use over::Over;

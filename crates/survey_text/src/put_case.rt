@@ -7,11 +7,9 @@ ghost use Rattle.survey_text.specs.Text.{case_end, case_line, case_text, change_
 ghost use Rattle.text_lines.specs.Written.{PutsOn};
 
 use crate::case_words::put_case_words;
-use crate::change::Change;
-use crate::over::Over;
-use crate::service::Service;
 use crate::told::count_found;
 use crate::words::put_count;
+use crate::worked_case::WorkedCase;
 use net_base::{Failed, Plan, Sink};
 use survey_laws::Fault;
 use text_lines::{LineWord, Page};
@@ -36,18 +34,17 @@ fn put_rest<K: Sink>(
 fn put_line<K: Sink>(
     page: &mut Page,
     sink: &mut K,
-    over: Over<'_>,
-    faults: &[Fault],
+    worked: WorkedCase<'_>,
     lost: u64,
     found: u64,
 ) -> Result<(), Failed>
     ghost case: { Case }
-    requires lost { lost ≡ count_lost over.plan.now case.before faults.now }
-    requires found { found ≡ count_found over.plan.now case.before faults.now }
-    ensures { PutsOn K.taken K.faults page.old page.new sink.old sink.new result (case_line over.entry.plan.now case.before faults.now) }
+    requires lost { lost ≡ count_lost worked.over.plan.now case.before worked.faults.now }
+    requires found { found ≡ count_found worked.over.plan.now case.before worked.faults.now }
+    ensures { PutsOn K.taken K.faults page.old page.new sink.old sink.new result (case_line worked.entry.over.plan.now case.before worked.entry.faults.now) }
 {
     match put_count(page, sink, b"case", lost) {
-        Ok(()) => put_rest(page, sink, over.plan, faults, found),
+        Ok(()) => put_rest(page, sink, worked.over.plan, worked.faults, found),
         Err(fault) => Err(fault),
     }
 }
@@ -56,40 +53,46 @@ fn put_line<K: Sink>(
 fn put_lost<K: Sink>(
     page: &mut Page,
     sink: &mut K,
-    over: Over<'_>,
-    services: &[Service],
-    changes: &[Change],
-    faults: &[Fault],
+    worked: WorkedCase<'_>,
     place: usize,
 ) -> Result<(), Failed>
     ghost case: { Case }
-    requires over { IsOver case.before over }
-    requires services { AreServices over.plan.now case.before services.now }
-    requires changes { AreLeft over.plan.now case.before faults.now [] changes.now }
-    requires place { place < length over.plan.now.services }
-    ensures { PutsOn K.taken K.faults page.old page.new sink.old sink.new result (lost_text over.entry.plan.now case.before faults.now (record { 0 = place })) }
+    requires over { IsOver case.before worked.over }
+    requires services { AreServices worked.over.plan.now case.before worked.services.now }
+    requires changes { AreLeft worked.over.plan.now case.before worked.faults.now [] worked.changes.now }
+    requires place { place < length worked.over.plan.now.services }
+    ensures { PutsOn K.taken K.faults page.old page.new sink.old sink.new result (lost_text worked.entry.over.plan.now case.before worked.entry.faults.now (record { 0 = place })) }
 {
-    services[place].put_lost(page, sink, over, &changes[place], faults)
+    worked.services[place].put_lost(
+        page,
+        sink,
+        worked.over,
+        &worked.changes[place],
+        worked.faults,
+    )
 }
 
 // Puts the lines of the pairs that find each other in the service at a place.
 fn put_found<K: Sink>(
     page: &mut Page,
     sink: &mut K,
-    over: Over<'_>,
-    services: &[Service],
-    changes: &[Change],
-    faults: &[Fault],
+    worked: WorkedCase<'_>,
     place: usize,
 ) -> Result<(), Failed>
     ghost case: { Case }
-    requires over { IsOver case.before over }
-    requires services { AreServices over.plan.now case.before services.now }
-    requires changes { AreLeft over.plan.now case.before faults.now [] changes.now }
-    requires place { place < length over.plan.now.services }
-    ensures { PutsOn K.taken K.faults page.old page.new sink.old sink.new result (found_text over.entry.plan.now case.before faults.now (record { 0 = place })) }
+    requires over { IsOver case.before worked.over }
+    requires services { AreServices worked.over.plan.now case.before worked.services.now }
+    requires changes { AreLeft worked.over.plan.now case.before worked.faults.now [] worked.changes.now }
+    requires place { place < length worked.over.plan.now.services }
+    ensures { PutsOn K.taken K.faults page.old page.new sink.old sink.new result (found_text worked.entry.over.plan.now case.before worked.entry.faults.now (record { 0 = place })) }
 {
-    services[place].put_found(page, sink, over, &changes[place], faults)
+    worked.services[place].put_found(
+        page,
+        sink,
+        worked.over,
+        &worked.changes[place],
+        worked.faults,
+    )
 }
 
 // Puts the lines of what the case changes in the service at a place.
@@ -97,42 +100,32 @@ fn put_found<K: Sink>(
 fn put_change<K: Sink>(
     page: &mut Page,
     sink: &mut K,
-    over: Over<'_>,
-    services: &[Service],
-    changes: &[Change],
-    faults: &[Fault],
+    worked: WorkedCase<'_>,
     place: usize,
 ) -> Result<(), Failed>
     ghost case: { Case }
-    requires over { IsOver case.before over }
-    requires services { AreServices over.plan.now case.before services.now }
-    requires changes { AreLeft over.plan.now case.before faults.now [] changes.now }
-    requires place { place < length over.plan.now.services }
-    ensures { PutsOn K.taken K.faults page.old page.new sink.old sink.new result (change_text over.entry.plan.now case.before faults.now place) }
+    requires over { IsOver case.before worked.over }
+    requires services { AreServices worked.over.plan.now case.before worked.services.now }
+    requires changes { AreLeft worked.over.plan.now case.before worked.faults.now [] worked.changes.now }
+    requires place { place < length worked.over.plan.now.services }
+    ensures { PutsOn K.taken K.faults page.old page.new sink.old sink.new result (change_text worked.entry.over.plan.now case.before worked.entry.faults.now place) }
 {
-    match put_lost(page, sink, over, services, changes, faults, place) {
-        Ok(()) => put_found(page, sink, over, services, changes, faults, place),
+    match put_lost(page, sink, worked, place) {
+        Ok(()) => put_found(page, sink, worked, place),
         Err(fault) => Err(fault),
     }
 }
 
 // Puts those of what it changes in all.
-fn put_changes<K: Sink>(
-    page: &mut Page,
-    sink: &mut K,
-    over: Over<'_>,
-    services: &[Service],
-    changes: &[Change],
-    faults: &[Fault],
-) -> Result<(), Failed>
+fn put_changes<K: Sink>(page: &mut Page, sink: &mut K, worked: WorkedCase<'_>) -> Result<(), Failed>
     ghost case: { Case }
-    requires over { IsOver case.before over }
-    requires services { AreServices over.plan.now case.before services.now }
-    requires changes { AreLeft over.plan.now case.before faults.now [] changes.now }
-    ensures { PutsOn K.taken K.faults page.old page.new sink.old sink.new result (change_texts over.entry.plan.now case.before faults.now 0 over.entry.plan.now.services) }
+    requires over { IsOver case.before worked.over }
+    requires services { AreServices worked.over.plan.now case.before worked.services.now }
+    requires changes { AreLeft worked.over.plan.now case.before worked.faults.now [] worked.changes.now }
+    ensures { PutsOn K.taken K.faults page.old page.new sink.old sink.new result (change_texts worked.entry.over.plan.now case.before worked.entry.faults.now 0 worked.entry.over.plan.now.services) }
 {
-    for service in 0..over.plan.services.len() {
-        put_change(page, sink, over, services, changes, faults, service)?;
+    for service in 0..worked.over.plan.services.len() {
+        put_change(page, sink, worked, service)?;
     }
     Ok(())
 }
@@ -141,23 +134,20 @@ fn put_changes<K: Sink>(
 fn put_lines<K: Sink>(
     page: &mut Page,
     sink: &mut K,
-    over: Over<'_>,
-    services: &[Service],
-    changes: &[Change],
-    faults: &[Fault],
+    worked: WorkedCase<'_>,
     lost: u64,
 ) -> Result<(), Failed>
     ghost case: { Case }
-    requires over { IsOver case.before over }
-    requires services { AreServices over.plan.now case.before services.now }
-    requires changes { AreLeft over.plan.now case.before faults.now [] changes.now }
-    requires lost { lost ≡ count_lost over.plan.now case.before faults.now }
-    requires same { faults.now ≡ case.faults }
-    ensures { PutsOn K.taken K.faults page.old page.new sink.old sink.new result (case_line over.entry.plan.now case.before faults.now ++ change_texts over.entry.plan.now case.before faults.now 0 over.entry.plan.now.services) }
+    requires over { IsOver case.before worked.over }
+    requires services { AreServices worked.over.plan.now case.before worked.services.now }
+    requires changes { AreLeft worked.over.plan.now case.before worked.faults.now [] worked.changes.now }
+    requires lost { lost ≡ count_lost worked.over.plan.now case.before worked.faults.now }
+    requires same { worked.faults.now ≡ case.faults }
+    ensures { PutsOn K.taken K.faults page.old page.new sink.old sink.new result (case_line worked.entry.over.plan.now case.before worked.entry.faults.now ++ change_texts worked.entry.over.plan.now case.before worked.entry.faults.now 0 worked.entry.over.plan.now.services) }
 {
-    let found = count_found(over, services, changes);
-    match put_line(page, sink, over, faults, lost, found) {
-        Ok(()) => put_changes(page, sink, over, services, changes, faults),
+    let found = count_found(worked.over, worked.services, worked.changes);
+    match put_line(page, sink, worked, lost, found) {
+        Ok(()) => put_changes(page, sink, worked),
         Err(fault) => Err(fault),
     }
 }
@@ -167,24 +157,21 @@ fn put_lines<K: Sink>(
 pub fn put_case<K: Sink>(
     page: &mut Page,
     sink: &mut K,
-    over: Over<'_>,
-    services: &[Service],
-    changes: &[Change],
-    faults: &[Fault],
+    worked: WorkedCase<'_>,
     lost: u64,
     told: bool,
 ) -> Result<(), Failed>
     ghost case: { Case }
-    requires over { IsOver case.before over }
-    requires services { AreServices over.plan.now case.before services.now }
-    requires changes { AreLeft over.plan.now case.before faults.now [] changes.now }
-    requires lost { lost ≡ count_lost over.plan.now case.before faults.now }
-    requires told { told ≡ is_told over.plan.now case.before faults.now }
-    requires same { faults.now ≡ case.faults }
-    ensures { PutsOn K.taken K.faults page.old page.new sink.old sink.new result (case_text over.entry.plan.now case.before faults.now) }
+    requires over { IsOver case.before worked.over }
+    requires services { AreServices worked.over.plan.now case.before worked.services.now }
+    requires changes { AreLeft worked.over.plan.now case.before worked.faults.now [] worked.changes.now }
+    requires lost { lost ≡ count_lost worked.over.plan.now case.before worked.faults.now }
+    requires told { told ≡ is_told worked.over.plan.now case.before worked.faults.now }
+    requires same { worked.faults.now ≡ case.faults }
+    ensures { PutsOn K.taken K.faults page.old page.new sink.old sink.new result (case_text worked.entry.over.plan.now case.before worked.entry.faults.now) }
 {
     if told {
-        put_lines(page, sink, over, services, changes, faults, lost)
+        put_lines(page, sink, worked, lost)
     } else {
         Ok(())
     }

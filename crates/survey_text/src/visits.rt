@@ -12,20 +12,21 @@ use crate::stop::SurveyStop;
 use crate::tally::Tally;
 use crate::told::count_lost;
 use crate::work::Work;
+use crate::worked_case::WorkedCase;
 use net_base::{Failed, NoMemory, Sink};
 use survey_laws::Fault;
 use text_lines::Page;
 
 // Counts a case that was worked out, and puts its lines, where it is told.
 #[tactic(auto, using(crate::proofs::VisitLemmas::front_none))]
-fn close<K: Sink>(
-    work: &Work,
+fn close<'a, K: Sink>(
+    work: &'a Work,
     tally: &mut Tally,
     page: &mut Page,
     sink: &mut K,
-    over: Over<'_>,
-    known: &Known,
-    faults: &[Fault],
+    over: Over<'a>,
+    known: &'a Known,
+    faults: &'a [Fault],
     told: bool,
 ) -> Result<(), SurveyStop>
     ghost case: { Case }
@@ -40,8 +41,14 @@ fn close<K: Sink>(
     let services = known.services.as_slice();
     let changes = work.changes.as_slice();
     let lost = count_lost(over, services, changes);
+    let worked = WorkedCase {
+        over,
+        services,
+        changes,
+        faults,
+    };
     match tally.add(over.alloc, faults, lost, told) {
-        Ok(()) => match put_case(page, sink, over, services, changes, faults, lost, told) {
+        Ok(()) => match put_case(page, sink, worked, lost, told) {
             Ok(()) => Ok(()),
             Err(Failed) => Err(SurveyStop::Failed),
         },

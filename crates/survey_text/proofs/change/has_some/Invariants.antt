@@ -1,4 +1,4 @@
-use Rattle.std.proofs.Common.{◌≡◌, ℕ, drop}
+use Rattle.std.proofs.Common.{◌≡◌, drop}
 use Rattle.survey_reach.specs.Words.{has_pair}
 use Rattle.survey_text.specs.Relations.{any_edge}
 use Rattle.survey_text.proofs.change.has_some.Given as goal

@@ -1,4 +1,4 @@
-use Rattle.std.proofs.Common.{ℕ, [], length, rules, subst}
+use Rattle.std.proofs.Common.{ℕ, [], rules, subst}
 use Rattle.net_base.specs.declared.plan.places.ServiceId.{ServiceId}
 use Rattle.survey_text.specs.Surveys.{AreServices, IsLeft, IsService}
 use Rattle.survey_text.proofs.KnownLemmas.{own_service}
