@@ -6,7 +6,8 @@ use Rattle.std.specs.List.{position_or_len}
 use Rattle.command_text.specs.declared.plan_names.PlanNames.{PlanNames}
 use Rattle.command_text.specs.declared.scenario_fault.ScenarioFault.TheVariants.{BadWord}
 use Rattle.command_text.specs.Events.{frame_command_behind, frame_event_in, packet_command, command_of, command_in, one}
-use Rattle.command_text.specs.Hex.{digit_value, pair_value, unhex, of_frame_size, frame_of}
+use Rattle.octet_text.specs.Hex.{digit_value, pair_value, unhex}
+use Rattle.command_text.specs.Hex.{of_frame_size, frame_of}
 use Rattle.command_text.specs.Words.{is_space, after_word, first_word, word_after, word_at}
 use Rattle.command_text.proofs.WordLemmas.{no_space_before, place_le, space_after}
 

@@ -1,11 +1,10 @@
 -- Words by their numbers.
-use Rattle.std.proofs.Common.{◌≡◌, ◌<◌, ◌≤◌, ◌∙◌, ◌+◌, ◌-◌, ℕ, zero, suc, not, refl, List, length, drop, nat_lt, Some, None, option_and_then, if◌then◌else◌, sym, ap, arith}
+use Rattle.std.proofs.Common.{◌≡◌, ◌<◌, ◌≤◌, ◌∙◌, ◌-◌, ℕ, zero, suc, not, List, length, nat_lt, Some, None, option_and_then, if◌then◌else◌, sym, ap, arith}
 use Rattle.std.proofs.lemmas.Bool.{false_from_ne_true}
 use Rattle.std.proofs.lemmas.Bool.Decides.{Decides-ltb}
-use Rattle.std.proofs.lemmas.List.{drop-drop, take_all}
+use Rattle.std.proofs.lemmas.List.{take_all}
 use Rattle.std.proofs.lemmas.List.Sums.{prefix_len-le-length}
-use Rattle.std.specs.List.{position, position_or_len, after_first}
-use Rattle.net_values.proofs.OptionLemmas.{found_at, none_of}
+use Rattle.std.specs.List.{position_or_len, after_first}
 use Rattle.command_text.specs.Words.{is_space, after_word, first_word, word_after}
 
 -- one word less of the rest
@@ -34,18 +33,3 @@ no_space_before text e = take_all (position_or_len is_space text) text (omega (a
 -- the first space, where there is one
 pub place_le : (text : List ℕ) → position_or_len is_space text ≤ length text
 place_le text = prefix_len-le-length (λ x. not (is_space x)) text
-
-pub place_of_some : (text : List ℕ) (at : ℕ) → Some at ≡ position is_space text → at ≡ position_or_len is_space text
-place_of_some text at e = found_at (nat_lt (position_or_len is_space text) (length text)) (position_or_len is_space text) at e
-
-pub place_of_none : (text : List ℕ) → None ≡ position is_space text → length text ≡ position_or_len is_space text
-place_of_none text e = none_of (nat_lt (position_or_len is_space text) (length text)) (position_or_len is_space text) (length text) refl (place_le text) e
-
--- what is behind the space behind the first word
-pub rest_behind : (text behind rest : List ℕ) (at : ℕ) → at ≡ position_or_len is_space text → at < length text → behind ≡ drop at text → rest ≡ drop 1 behind → Some rest ≡ after_word text
-rest_behind text behind rest at is within back last =
-    sym (space_after text (omega (arith, is, within))
-    ∙ ap Some (ap (λ n. drop (n + 1) text) (sym is) ∙ sym (drop-drop 1 at text) ∙ ap (drop 1) (sym back) ∙ sym last))
-
-pub rest_of_none : (text : List ℕ) (at : ℕ) → at ≡ position_or_len is_space text → ¬ (at < length text) → at ≤ length text → None ≡ after_word text
-rest_of_none text at is none within = sym (no_space_after text (omega (arith, is, none, within)))

@@ -9,7 +9,6 @@ mod commands;
 pub mod decimal;
 mod event_place;
 mod events;
-pub mod hex;
 mod key;
 mod name_index;
 mod name_lists;

@@ -6,11 +6,11 @@ ghost use Rattle.net_base.specs.plan.Planned.{IsFrame};
 
 use crate::ScenarioFault;
 use crate::decimal::decimal;
-use crate::hex::decode;
 use crate::name_index::NameIndex;
 use crate::same::is_same;
 use crate::words::{cut_octets, word};
 use net_base::{NoMemory, Octets, Word};
+use octet_text::octets_of;
 use std::alloc::Global;
 
 /// The fault that a word is missing, one too many, or not what has to stand there.
@@ -109,7 +109,7 @@ fn frame(alloc: Global, capacity: usize, digits: &[u8]) -> Result<Option<Octets>
     ensures value { IfOk result (λ octets. octets ≡ frame_of digits.now) }
     ensures sized { IfOk result (λ octets. IfSome octets IsFrame) }
 {
-    let Some(octets) = decode(alloc, capacity, digits)? else {
+    let Some(octets) = octets_of(alloc, capacity, true, digits)? else {
         return Ok(None);
     };
     if octets.is_empty() || octets.len() > 9216 {

@@ -1,6 +1,8 @@
 //! Words of a command.
-ghost use Rattle.std.specs.{Prelude.{◌≡◌, ◌≤◌, length, option_map}, List.{position, position_or_len}};
-ghost use Rattle.command_text.specs.Words.{after_word, first_word, is_space, word_at};
+ghost use Rattle.std.specs.Prelude.{◌≡◌, ◌≤◌, option_map};
+ghost use Rattle.command_text.specs.Words.{after_word, first_word, word_at};
+
+use octet_text::cut_at;
 
 // The first word, and what follows the first space.
 #[tactic(auto, using(crate::proofs::WordLemmas::no_space_after, crate::proofs::WordLemmas::no_space_before, crate::proofs::WordLemmas::space_after))]
@@ -30,40 +32,13 @@ pub fn after(text: &str) -> Option<&str>
     rest
 }
 
-// The place of the first space.
-fn space_in(octets: &[u8]) -> Option<usize>
-    ensures place { result ≡ position is_space octets.now }
-{
-    octets.iter().position(|octet| *octet == b' ')
-}
-
-// How many octets stand before the first space, or all where there is none.
-#[tactic(auto, using(crate::proofs::WordLemmas::place_of_some, crate::proofs::WordLemmas::place_of_none, crate::proofs::WordLemmas::place_le))]
-fn word_len(octets: &[u8]) -> usize
-    ensures length { result ≡ position_or_len is_space octets.now }
-    ensures within { result ≤ length octets.now }
-{
-    match space_in(octets) {
-        Some(at) => at,
-        None => octets.len(),
-    }
-}
-
 /// The first word of octets, and what follows the first space. A short word is found so in a fraction of the time that a search in a
 /// text takes.
-#[tactic(auto, using(crate::proofs::WordLemmas::rest_behind, crate::proofs::WordLemmas::rest_of_none))]
 pub fn cut_octets(octets: &[u8]) -> (&[u8], Option<&[u8]>)
     ensures word { result.0.now ≡ first_word octets.now }
     ensures rest { option_map (λ r. r.now) result.1 ≡ after_word octets.now }
 {
-    let at = word_len(octets);
-    let (word, behind) = octets.split_at(at);
-    if at < octets.len() {
-        let (_, rest) = behind.split_at(1);
-        (word, Some(rest))
-    } else {
-        (word, None)
-    }
+    cut_at(b' ', octets)
 }
 
 /// The word of a number, counted from 1.

@@ -22,7 +22,8 @@ use Rattle.report_text.specs.Named.{AreOctetsTold}
 use Rattle.report_entries.specs.declared.passed.Carried.{Carried}
 use Rattle.report_entries.specs.declared.passed.Passed.{Passed}
 use Rattle.report_entries.specs.declared.unread.Unread.{Unread}
-use Rattle.report_entries.specs.Cut.{before_mark, behind_mark, line_words, words_within}
+use Rattle.octet_text.specs.Cut.{before_mark, behind_mark}
+use Rattle.report_entries.specs.Cut.{line_words, words_within}
 use Rattle.report_entries.specs.Entries.{carried_in, did_in, entered_in, entry_forms, entry_made, exact, left_in, line_entry, passed_in, row_entry, said_in, sent_in, told_entry_in, told_entry_of, words_entry}
 use Rattle.report_entries.specs.Events.{event_forms, event_made, event_told, frame_told, of_record_size, row_event}
 use Rattle.report_entries.specs.Reading.{◌>>=◌, Reads, arrival_in, circuit_of_word, digits_told, edge_of_word, number_in, wire_of_word}

@@ -5,7 +5,7 @@ use Rattle.std.specs.Str.{bytes_eq}
 use Rattle.report_entries.specs.declared.tally.Tally.{Tally}
 use Rattle.report_entries.specs.Answers.{HasBegun}
 use Rattle.report_entries.specs.Counted.{first_counts}
-use Rattle.report_entries.specs.Cut.{before_mark, behind_mark}
+use Rattle.octet_text.specs.Cut.{before_mark, behind_mark}
 use Rattle.report_entries.specs.Report.{goes_on, told_of}
 
 -- what follows a mark is no longer than all

@@ -3,7 +3,8 @@ use Rattle.std.proofs.Common.{◌≡◌, ◌≤◌, ◌+◌, ◌++◌, ◌&&◌,
 use Rattle.std.proofs.lemmas.Bool.{eq-eqb}
 use Rattle.text_lines.specs.Lines.{line_of}
 use Rattle.read_lines.specs.Plain.{IsPlain, IsPlainLine, is_plain}
-use Rattle.report_entries.specs.Cut.{before_mark, behind_mark, words_within}
+use Rattle.octet_text.specs.Cut.{before_mark, behind_mark}
+use Rattle.report_entries.specs.Cut.{words_within}
 use Rattle.report_entries.specs.Laws.{IsFreeOf}
 
 no_blank : (c : ℕ) → is_plain c ≡ true → nat_eq c 32 ≡ false

@@ -4,10 +4,10 @@ use Rattle.std.proofs.lemmas.Bool.{cases_lt, eqb-true, and_parts}
 use Rattle.std.proofs.lemmas.Bool.Decides.{Decides-ltb, nat_tests}
 use Rattle.std.specs.List.{list_all}
 use Rattle.hex.specs.Hex.{encode_with, lower_digits}
-use Rattle.command_text.specs.Hex.{digit_value, unhex}
+use Rattle.octet_text.specs.Hex.{digit_value, is_small, unhex}
 use Rattle.text_pieces.specs.Pieces.{hex}
 use Rattle.report_text.specs.Named.{AreOctetsTold}
-use Rattle.report_entries.specs.Reading.{is_small, digits_told}
+use Rattle.report_entries.specs.Reading.{digits_told}
 
 -- the test of the numbers below a bound, which computes
 all_below : (ℕ → Bool) → ℕ → Bool

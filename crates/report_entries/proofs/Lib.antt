@@ -5,8 +5,6 @@ pub mod CountLemmas
 pub mod CutLemmas
 pub mod DigitLemmas
 pub mod FoundLemmas
-pub mod LaneLemmas
-pub mod MarkLemmas
 pub mod NamedLemmas
 pub mod PlainLemmas
 pub mod ReportFoundLemmas

@@ -1,10 +1,8 @@
--- Digits without capital letters are read by lanes and one by one.
-use Rattle.std.proofs.Common.{◌≡◌, ◌<◌, ◌+◌, ◌*◌, ◌&&◌, ◌∙◌, ℕ, zero, suc, Bool, true, false, List, [], ◌∷◌, Option, Some, None, cond, drop, length, map, option_and_then, option_map, refl, ap, sym, arith, slice_index, take}
-use Rattle.std.proofs.lemmas.List.{drop-map, length-map, take-map}
+-- Digits without capital letters are those in which a capital letter is none.
+use Rattle.std.proofs.Common.{◌≡◌, ◌+◌, ◌*◌, ◌&&◌, ◌∙◌, ℕ, Bool, true, false, List, [], ◌∷◌, Option, Some, None, cond, map, option_and_then, option_map, refl, ap, sym}
 use Rattle.std.specs.List.{list_all}
-use Rattle.std.specs.Simd.Lanes.{chunk}
-use Rattle.command_text.specs.Hex.{digit_value, pair_value, unhex, worth}
-use Rattle.report_entries.specs.Reading.{digits_told, is_small, small_or_none}
+use Rattle.octet_text.specs.Hex.{digit_value, is_small, pair_value, small_or_none, unhex}
+use Rattle.report_entries.specs.Reading.{digits_told}
 
 -- ---- what is no digit
 
@@ -46,26 +44,3 @@ told_small word = by (list_all is_small word) refl where
   by : (b : Bool) → list_all is_small word ≡ b → cond b (unhex word) None ≡ unhex (map small_or_none word)
   by true small = ap unhex (sym (all_same word small))
   by false large = sym (none_told word large)
-
--- ---- parts of a word
-
-pub small_length : (word : List ℕ) → length (map small_or_none word) ≡ length word
-small_length word = length-map word small_or_none
-
-pub small_at : (word : List ℕ) (i : ℕ) → i < length word → slice_index (map small_or_none word) i ≡ small_or_none (slice_index word i)
-small_at [] i within = absurd (omega (arith, within))
-small_at (a ∷ rest) zero within = refl
-small_at (a ∷ rest) (suc i) within = small_at rest i (omega (arith, within))
-
-pub small_chunk : (word : List ℕ) (at : ℕ) → chunk at 16 (map small_or_none word) ≡ map small_or_none (chunk at 16 word)
-small_chunk word at = ap (take 16) (drop-map small_or_none at word) ∙ take-map small_or_none 16 (drop at word)
-
-pub small_drop : (rest word : List ℕ) (at : ℕ) → rest ≡ drop at word → map small_or_none rest ≡ drop at (map small_or_none word)
-small_drop rest word at is = ap (map small_or_none) is ∙ sym (drop-map small_or_none at word)
-
-pub small_take : (piece word : List ℕ) (n : ℕ) → piece ≡ take n word → map small_or_none piece ≡ take n (map small_or_none word)
-small_take piece word n is = ap (map small_or_none) is ∙ sym (take-map small_or_none n word)
-
-pub worth_small : (word : List ℕ) → map worth (map small_or_none word) ≡ map (λ d. worth (small_or_none d)) word
-worth_small [] = refl
-worth_small (a ∷ rest) = ap (λ (l : List ℕ). worth (small_or_none a) ∷ l) (worth_small rest)

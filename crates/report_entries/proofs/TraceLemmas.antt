@@ -8,7 +8,7 @@ use Rattle.net_base.specs.declared.plan.Plan.{Plan}
 use Rattle.net_base.specs.declared.trace.entry.Entry.{Entry}
 use Rattle.report_text.specs.Report.{entry_line, entry_lines}
 use Rattle.report_entries.specs.declared.tally.Tally.{Tally}
-use Rattle.report_entries.specs.Cut.{before_mark, behind_mark}
+use Rattle.octet_text.specs.Cut.{before_mark, behind_mark}
 use Rattle.report_entries.specs.Entries.{exact, line_entry, told_entry_in}
 use Rattle.report_entries.specs.Counted.{tallied, first_counts}
 use Rattle.report_entries.specs.Laws.{TellsTrace, counted_all}

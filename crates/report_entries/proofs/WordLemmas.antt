@@ -2,7 +2,8 @@
 use denote.Ref.{Bor}
 use Rattle.std.proofs.Common.{◌≡◌, ◌<◌, ◌+◌, ◌-◌, ◌++◌, ◌∙◌, ℕ, zero, suc, List, [], ◌∷◌, Option, Some, None, length, map, option_map, slice_set, take, unwrap_or, sym, ap, arith, append_assoc}
 use Rattle.std.proofs.lemmas.List.{map-append, take_more_set}
-use Rattle.report_entries.specs.Cut.{before_mark, behind_mark, words_within}
+use Rattle.octet_text.specs.Cut.{before_mark, behind_mark}
+use Rattle.report_entries.specs.Cut.{words_within}
 
 abbrev octets_now : List (Bor (List ℕ)) → List (List ℕ)
 octets_now words = map (λ w. w.now) words

@@ -1,6 +1,5 @@
 -- What the words of a report's lines say. No two words say the same: numbers have no leading zeros, and digits no capital letters.
-use Rattle.std.specs.Prelude.{◌≡◌, not, codes, ℕ, Bool, List, Option, Some, None, option_map, is_some, Result, Ok, Err, if◌then◌else◌}
-use Rattle.std.specs.Char.{is_ascii_uppercase}
+use Rattle.std.specs.Prelude.{◌≡◌, codes, ℕ, List, Option, Some, None, option_map, is_some, Result, Ok, Err, if◌then◌else◌}
 use Rattle.std.specs.List.{list_all}
 use Rattle.std.specs.Str.{bytes_eq}
 use Rattle.net_base.specs.declared.plan.places.CircuitId.{CircuitId}
@@ -8,8 +7,8 @@ use Rattle.net_base.specs.declared.plan.places.EdgeId.{EdgeId}
 use Rattle.net_base.specs.declared.plan.places.WireId.{WireId}
 use Rattle.net_base.specs.declared.trace.arrival.Arrival.{Arrival}
 use Rattle.net_base.specs.declared.trace.arrival.Arrival.TheVariants as arrival
+use Rattle.octet_text.specs.Hex.{is_small, unhex}
 use Rattle.command_text.specs.declared.plan_names.PlanNames.{PlanNames}
-use Rattle.command_text.specs.Hex.{unhex}
 use Rattle.command_text.specs.Names.{place_in}
 use Rattle.command_text.specs.Words.{decimal_from}
 use Rattle.report_entries.specs.declared.unread.Unread.{Unread}
@@ -50,14 +49,6 @@ arrival_in names word =
 -- a number of 64 bits
 unfoldable pub number_in : List ℕ → Option ℕ
 number_in word = decimal_from 0 18446744073709551615 word
-
--- an octet that is no capital letter
-abbrev pub is_small : ℕ → Bool
-is_small octet = not (is_ascii_uppercase octet)
-
--- the octet, where it is no capital letter, and else one that is no digit
-abbrev pub small_or_none : ℕ → ℕ
-small_or_none octet = if is_small octet then octet else 0
 
 -- pairs of digits, without capital letters
 unfoldable pub digits_told : List ℕ → Option (List ℕ)

@@ -6,7 +6,8 @@ use Rattle.net_base.specs.declared.trace.entry.Entry.{Entry}
 use Rattle.command_text.specs.Words.{is_decimal}
 use Rattle.report_text.specs.Report.{counts_words}
 use Rattle.text_lines.specs.Lines.{line_of}
-use Rattle.report_entries.specs.Cut.{before_mark, behind_mark, report_line_feed, line_words}
+use Rattle.octet_text.specs.Cut.{before_mark, behind_mark}
+use Rattle.report_entries.specs.Cut.{report_line_feed, line_words}
 use Rattle.report_entries.specs.Entries.{line_entry}
 use Rattle.report_entries.specs.declared.tally.Tally.{Tally}
 use Rattle.report_entries.specs.Counted.{tallied, first_counts}

@@ -4,7 +4,6 @@
 #![tactic(auto)]
 
 mod cut;
-mod digits;
 mod entry;
 mod entry_line;
 mod event;

@@ -5,7 +5,7 @@ ghost use Rattle.report_text.specs.Named.{IsEntryNamed};
 ghost use Rattle.report_entries.specs.{Answers.{Begins, ReportGoesOn}, Counted.{AreTallied}};
 
 use crate::ReportFault;
-use crate::cut::{cut_at, words_of};
+use crate::cut::words_of;
 use crate::entry_line::entry_at;
 use crate::last_line::is_last_line;
 use crate::line_writer::LineWriter;
@@ -13,6 +13,7 @@ use crate::tally::Tally;
 use command_text::PlanNames;
 use line_shapes::is_word;
 use net_base::{Entry, Plan};
+use octet_text::cut_at;
 use std::alloc::Global;
 use std::marker::Model;
 

@@ -2,11 +2,11 @@
 ghost use Rattle.report_entries.specs.Reading.{Reads, arrival_in, circuit_of_word, digits_told, edge_of_word, number_in, wire_of_word};
 
 use crate::Unread;
-use crate::digits::small_octets;
 use command_text::PlanNames;
 use command_text::decimal::decimal;
 use line_shapes::is_word;
 use net_base::{Arrival, CircuitId, EdgeId, NoMemory, Octets, WireId};
+use octet_text::octets_of;
 use std::alloc::Global;
 
 /// The edge of a name.
@@ -75,7 +75,7 @@ pub fn number(word: &[u8]) -> Result<u64, Unread>
 pub fn octets(alloc: Global, word: &[u8]) -> Result<Octets, Unread>
     ensures { Reads result (digits_told word.now) }
 {
-    match small_octets(alloc, word) {
+    match octets_of(alloc, word.len() / 2, false, word) {
         Ok(Some(octets)) => Ok(octets),
         Ok(None) => Err(Unread::NoEntry),
         Err(NoMemory) => Err(Unread::NoMemory),

@@ -2,11 +2,10 @@
 use Rattle.std.proofs.Common.{◌≡◌, ◌<◌, ◌≤◌, ◌∙◌, ◌+◌, ◌-◌, ◌==◌, not, nat_eq, ℕ, zero, suc, Bool, true, false, cond, List, [], ◌∷◌, length, take, drop, slice_get, nat_lt, Option, Some, None, count_by, if◌then◌else◌, refl, sym, ap, arith, inl, inr}
 use Rattle.std.proofs.lemmas.Bool.{cases_Bool, cases_lt, eqb-true, false_from_ne_true}
 use Rattle.std.proofs.lemmas.Bool.Decides.{Decides-ltb}
-use Rattle.std.proofs.lemmas.List.{drop-drop, take_all}
+use Rattle.std.proofs.lemmas.List.{take_all}
 use Rattle.std.proofs.lemmas.List.Sums.{prefix_len-le-length}
 use Rattle.std.proofs.lemmas.List.Recursion.{is_count_by}
-use Rattle.std.specs.List.{position, position_or_len, after_first}
-use Rattle.net_values.proofs.OptionLemmas.{found_at, none_of}
+use Rattle.std.specs.List.{position_or_len, after_first}
 use Rattle.script_text.specs.Parts.{before_part, parted_by, part_before, after_part}
 use Rattle.script_text.specs.Script.{space, bad_word, is_word, spaced_words, words_of}
 
@@ -29,22 +28,6 @@ part_after by text e =
 
 pub no_part_before : (by : ℕ) (text : List ℕ) → position_or_len (λ octet. octet == by) text ≡ length text → part_before by text ≡ text
 no_part_before by text e = take_all (place_in by text) text (omega (arith, e))
-
-pub place_of_some : (by : ℕ) (text : List ℕ) (at : ℕ) → Some at ≡ position (λ octet. octet == by) text → at ≡ position_or_len (λ octet. octet == by) text
-place_of_some by text at e = found_at (nat_lt (place_in by text) (length text)) (place_in by text) at e
-
-pub place_of_none : (by : ℕ) (text : List ℕ) → None ≡ position (λ octet. octet == by) text → length text ≡ position_or_len (λ octet. octet == by) text
-place_of_none by text e = none_of (nat_lt (place_in by text) (length text)) (place_in by text) (length text) refl (place_le by text) e
-
--- what is behind the octet behind the first part
-pub rest_behind : (by : ℕ) (text behind rest : List ℕ) (at : ℕ) → at ≡ position_or_len (λ octet. octet == by) text → at < length text → behind ≡ drop at text → rest ≡ drop 1 behind
-    → Some rest ≡ after_part by text
-rest_behind by text behind rest at is within back last =
-    sym (part_after by text (omega (arith, is, within))
-    ∙ ap Some (ap (λ n. drop (n + 1) text) (sym is) ∙ sym (drop-drop 1 at text) ∙ ap (drop 1) (sym back) ∙ sym last))
-
-pub rest_of_none : (by : ℕ) (text : List ℕ) (at : ℕ) → at ≡ position_or_len (λ octet. octet == by) text → ¬ (at < length text) → at ≤ length text → None ≡ after_part by text
-rest_of_none by text at is none within = sym (no_part_after by text (omega (arith, is, none, within)))
 
 -- the first part and the others
 abbrev first_and : List ℕ → Option (List (List ℕ)) → List (List ℕ)

@@ -1,0 +1,5 @@
+pub mod DigitLemmas
+pub mod HexLemmas
+pub mod LaneLemmas
+pub mod MarkLaneLemmas
+pub mod MarkLemmas

@@ -1,9 +1,0 @@
--- The lowest lane that is a mark is the first one.
-use Rattle.report_entries.proofs.LaneLemmas.{lane_before, lane_is}
-use Rattle.report_entries.proofs.cut.near_len.Goals as goal
-
-pub returns-clause-before : goal.returns-clause-before
-returns-clause-before c = lane_before c.args.mark c.args.text.now c.lowest_bit.result c.requires c.lowest_bit.ensures
-
-pub returns-clause-is : goal.returns-clause-is
-returns-clause-is c = lane_is c.args.mark c.args.text.now c.lowest_bit.result c.requires c.lowest_bit.ensures
