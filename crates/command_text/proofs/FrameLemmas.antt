@@ -3,7 +3,7 @@ use Rattle.std.proofs.Common.{◌≡◌, ◌∙◌, ◌+◌, ◌*◌, ◌++◌, 
 use Rattle.std.proofs.lemmas.List.{length-take-le}
 use Rattle.std.proofs.lemmas.Bool.Decides.{nat_tests}
 use Rattle.std.specs.List.{position_or_len}
-use Rattle.command_text.specs.declared.plan_names.PlanNames.{PlanNames}
+use Rattle.plan_names.specs.declared.plan_names.PlanNames.{PlanNames}
 use Rattle.command_text.specs.declared.scenario_fault.ScenarioFault.TheVariants.{BadWord}
 use Rattle.command_text.specs.Events.{frame_command_behind, frame_event_in, packet_command, command_of, command_in, one}
 use Rattle.octet_text.specs.Hex.{digit_value, pair_value, unhex}

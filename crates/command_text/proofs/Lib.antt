@@ -1,5 +1,2 @@
-pub mod CommonLemmas
-pub mod DecimalLemmas
 pub mod FrameLemmas
-pub mod NameLemmas
 pub mod WordLemmas

@@ -6,13 +6,14 @@ use Rattle.net_base.specs.declared.trace.event.Event.{Event}
 use Rattle.net_base.specs.declared.trace.event.Event.TheVariants.{Connect, Deliver, Lose, Restart, Tick, Frame, Arrive, Discard, Again, Wire, Circuit, Status, Priority, Ping}
 use Rattle.command_text.specs.declared.command.Command.{Command}
 use Rattle.command_text.specs.declared.command.Command.TheVariants.{One, Settle, Flow, Ticks, Play}
-use Rattle.command_text.specs.declared.plan_names.PlanNames.{PlanNames}
+use Rattle.plan_names.specs.declared.plan_names.PlanNames.{PlanNames}
 use Rattle.command_text.specs.declared.scenario_fault.ScenarioFault.{ScenarioFault}
 use Rattle.command_text.specs.declared.scenario_fault.ScenarioFault.TheVariants.{WrongKind, BadWord}
 use Rattle.command_text.specs.Reading.{◌>>=◌, checked, found}
 use Rattle.command_text.specs.Places.{place_of_key, top_row}
-use Rattle.command_text.specs.Names.{place_in}
-use Rattle.command_text.specs.Words.{word_at, word_after, after_word, first_word, said_word, ends_before, decimal_from, switch_of, some_word}
+use Rattle.plan_names.specs.Names.{place_in}
+use Rattle.plan_names.specs.Decimal.{decimal_from}
+use Rattle.command_text.specs.Words.{word_at, word_after, after_word, first_word, said_word, ends_before, switch_of, some_word}
 use Rattle.command_text.specs.Hex.{frame_of}
 
 -- the most events of a document

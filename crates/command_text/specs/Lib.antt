@@ -1,6 +1,5 @@
 pub mod Events
 pub mod Hex
-pub mod Names
 pub mod Places
 pub mod Planned
 pub mod Reading

@@ -2,15 +2,10 @@
 use Rattle.std.specs.Prelude.{◌<◌, ◌≤◌, ℕ, length}
 use Rattle.net_base.specs.declared.plan.Plan.{Plan}
 use Rattle.net_base.specs.declared.trace.event.Event.{Event}
-use Rattle.net_base.specs.plan.NameFaults.{edge_names, circuit_names, wire_names}
 use Rattle.net_base.specs.plan.Planned.{IsInPlan}
 use Rattle.command_text.specs.declared.command.Command.{Command}
 use Rattle.command_text.specs.declared.command.Command.TheVariants.{One, Settle, Flow, Ticks, Play}
-use Rattle.command_text.specs.declared.plan_names.PlanNames.{PlanNames}
-
--- the names by which commands speak of a plan
-abbrev pub names_of : Plan → PlanNames
-names_of plan = record { edges = edge_names plan.edges; circuits = circuit_names plan.circuits; wires = wire_names plan.wires }
+use Rattle.plan_names.specs.declared.plan_names.PlanNames.{PlanNames}
 
 -- a count of repetitions is 1 to 10000
 abbrev pub IsCount : ℕ → Type 0

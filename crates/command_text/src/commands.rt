@@ -1,7 +1,7 @@
 //! The commands of a document.
 ghost use Rattle.std.specs.{Prelude.{◌≡◌, ◌≤◌, ◌++◌, codes, length, IfOk, IfSome}, List.{All}};
 ghost use Rattle.toml.specs.View.{view, items_view};
-ghost use Rattle.command_text.specs.declared.plan_names.PlanNames.{PlanNames};
+ghost use Rattle.plan_names.specs.declared.plan_names.PlanNames.{PlanNames};
 ghost use Rattle.command_text.specs.Events.{most_events, repeats_in, tick_in, play_in, one, many_of, part_command, packet_command, command_of, command_in, event_in, frame_command_behind, commands_in};
 ghost use Rattle.command_text.specs.{Reading.{Gives}, Planned.{IsCount, IsAmong, IsInPlanNames}};
 
@@ -10,12 +10,12 @@ use crate::events::{
     circuit_switch, connect, deliver, frame, lose, packet, ping, priority, restart, status,
     wire_switch,
 };
-use crate::plan_names::PlanNames;
 use crate::row_place::RowPlace;
 use crate::said::{bad_word, file_word, name_word, no_word, number_word};
 use crate::words::{after, first, word};
 use crate::{Command, ScenarioFault};
 use net_base::{CircuitId, Event, List, NoMemory};
+use plan_names::PlanNames;
 use std::alloc::Global;
 use toml::Value;
 

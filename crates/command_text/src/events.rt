@@ -4,12 +4,12 @@ ghost use Rattle.command_text.specs.Events.{connect_in, deliver_in, lose_in, res
 ghost use Rattle.command_text.specs.{Reading.{Gives}, Planned.{IsAmong}};
 
 use crate::ScenarioFault;
-use crate::plan_names::PlanNames;
 use crate::said::{
     frame_octets, goes_on, name_word, no_more, no_word, number_word, place_of, switch_word,
 };
 use crate::words::cut_octets;
 use net_base::{CircuitId, EdgeId, Event, WireId};
+use plan_names::PlanNames;
 use std::alloc::Global;
 
 /// `connect E P`.

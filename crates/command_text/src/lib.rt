@@ -6,14 +6,9 @@
 
 mod command;
 mod commands;
-pub mod decimal;
 mod event_place;
 mod events;
 mod key;
-mod name_index;
-mod name_lists;
-mod plan_names;
-mod row_names;
 mod row_place;
 mod said;
 mod same;
@@ -22,10 +17,6 @@ pub mod words;
 
 pub use command::Command;
 pub use commands::{read_commands, read_one};
-pub use name_index::NameIndex;
-pub use name_lists::NameLists;
-pub use plan_names::PlanNames;
-pub use row_names::{names_of_circuits, names_of_edges, names_of_services, names_of_wires};
 pub use row_place::RowPlace;
 pub use same::is_same;
 pub use scenario_fault::ScenarioFault;

@@ -1,16 +1,16 @@
 //! What the words of a command say.
 ghost use Rattle.std.specs.Prelude.{◌≡◌, ◌<◌, ◌≤◌, not, true, is_some, Some, length, option_and_then, option_map, IfOk, IfSome};
-ghost use Rattle.command_text.specs.{Hex.{frame_of}, Names.{place_in}, Reading.{Gives, MapsTo, checked, found}};
-ghost use Rattle.command_text.specs.Words.{said_word, ends_before, first_word, word_after, decimal_from, switch_of, some_word};
+ghost use Rattle.plan_names.specs.{Names.{place_in}, Decimal.{decimal_from}};
+ghost use Rattle.command_text.specs.{Hex.{frame_of}, Reading.{Gives, MapsTo, checked, found}};
+ghost use Rattle.command_text.specs.Words.{said_word, ends_before, first_word, word_after, switch_of, some_word};
 ghost use Rattle.net_base.specs.plan.Planned.{IsFrame};
 
 use crate::ScenarioFault;
-use crate::decimal::decimal;
-use crate::name_index::NameIndex;
 use crate::same::is_same;
 use crate::words::{cut_octets, word};
 use net_base::{NoMemory, Octets, Word};
 use octet_text::octets_of;
+use plan_names::{NameIndex, decimal};
 use std::alloc::Global;
 
 /// The fault that a word is missing, one too many, or not what has to stand there.

@@ -1,7 +1,7 @@
 //! The lines of a script.
 ghost use Rattle.std.specs.Prelude.{◌≡◌, IfOk};
 ghost use Rattle.net_base.specs.declared.plan.Plan.{Plan};
-ghost use Rattle.command_text.specs.Planned.{names_of};
+ghost use Rattle.plan_names.specs.Planned.{names_of};
 ghost use Rattle.discovery_script.specs.Planned.{IsDiscoveryLineOf};
 ghost use Rattle.discovery_script.specs.Lines.{bring_in, do_in, hello_in, is_barred, discovery_line_of, open_in, said_behind, tick_line};
 ghost use Rattle.script_text.specs.Reading.{GivesScript};

@@ -1,14 +1,14 @@
 //! A whole script.
 ghost use Rattle.std.specs.Prelude.{◌≡◌, ◌<◌, ◌^◌, ◌-◌, All, IfOk, length};
 ghost use Rattle.net_base.specs.{declared.plan.Plan.{Plan}, plan.Accepted.{IsChecked}};
-ghost use Rattle.command_text.specs.Planned.{names_of};
+ghost use Rattle.plan_names.specs.Planned.{names_of};
 ghost use Rattle.discovery_script.specs.{Planned.{IsDiscoveryLineOf}, Lines.{discovery_lines_in}};
 ghost use Rattle.script_text.specs.Reading.{GivesScript};
 
 use crate::lines::read_line;
 use crate::script_line::ScriptLine;
-use command_text::{NameLists, PlanNames};
 use net_base::{List, NoMemory, Plan};
+use plan_names::{NameLists, PlanNames};
 use script_text::{ScriptFault, read_lines};
 use script_words::NumberedLine;
 use std::alloc::Global;

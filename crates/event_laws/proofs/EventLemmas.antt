@@ -13,12 +13,13 @@ use Rattle.net_base.specs.plan.NameFaults.{edge_names, circuit_names, wire_names
 use Rattle.report_text.specs.Words.{edge_name, circuit_name, wire_name, switch_name}
 use Rattle.command_text.specs.declared.command.Command.{Command}
 use Rattle.command_text.specs.declared.command.Command.TheVariants.{One}
-use Rattle.command_text.specs.declared.plan_names.PlanNames.{PlanNames}
-use Rattle.command_text.specs.Planned.{names_of}
+use Rattle.plan_names.specs.declared.plan_names.PlanNames.{PlanNames}
+use Rattle.plan_names.specs.Planned.{names_of}
 use Rattle.command_text.specs.Events.{connect_in, deliver_in, lose_in, restart_in, frame_event_in, packet_in, wire_switch_in, circuit_switch_in, status_in, priority_event_in, ping_in, many_of, part_command, packet_command, command_of, command_in}
 use Rattle.command_text.specs.Hex.{frame_of}
-use Rattle.command_text.specs.Names.{place_in}
-use Rattle.command_text.specs.Words.{is_space, decimal_from, switch_of}
+use Rattle.plan_names.specs.Names.{place_in}
+use Rattle.plan_names.specs.Decimal.{decimal_from}
+use Rattle.command_text.specs.Words.{is_space, switch_of}
 use Rattle.text_pieces.specs.Pieces.{hex}
 use Rattle.event_laws.specs.Law.{joined_words, HasNames, ReadsWhatIsWritten}
 use Rattle.event_laws.proofs.WordLemmas.{IsWhole, AreWhole, first_of, word_is, said_is, ends_is}

@@ -12,11 +12,12 @@ use Rattle.hex.specs.Hex.{encode_with, lower_digits}
 use Rattle.net_values.specs.Name.{IsName, is_name_octet_of}
 use Rattle.net_values.proofs.RowLemmas.{same_octets, octets_apart_back}
 use Rattle.report_text.specs.Words.{name_or_empty, switch_name}
-use Rattle.command_text.specs.Words.{is_space, is_digit_of, value_from, is_decimal, decimal_from, switch_of}
-use Rattle.command_text.specs.Names.{place_in}
+use Rattle.plan_names.specs.Decimal.{is_digit_of, value_from, is_decimal, decimal_from}
+use Rattle.command_text.specs.Words.{is_space, switch_of}
+use Rattle.plan_names.specs.Names.{place_in}
 use Rattle.octet_text.specs.Hex.{digit_value, pair_value, unhex}
 use Rattle.command_text.specs.Hex.{frame_of}
-use Rattle.command_text.proofs.CommonLemmas.{is_digit, in_range}
+use Rattle.plan_names.proofs.DecimalLemmas.{is_digit, in_range}
 use Rattle.text_pieces.specs.Pieces.{hex}
 use Rattle.event_laws.specs.Law.{AreNames, IsWritable}
 use Rattle.event_laws.proofs.WordLemmas.{IsWhole}

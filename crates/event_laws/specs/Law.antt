@@ -10,7 +10,7 @@ use Rattle.net_values.specs.Name.{IsName}
 use Rattle.std.specs.List.{All}
 use Rattle.std.specs.Str.{bytes_eq}
 use Rattle.report_text.specs.Words.{event_words}
-use Rattle.command_text.specs.Planned.{names_of}
+use Rattle.plan_names.specs.Planned.{names_of}
 use Rattle.command_text.specs.Events.{command_in}
 use Rattle.command_text.specs.declared.command.Command.TheVariants.{One}
 

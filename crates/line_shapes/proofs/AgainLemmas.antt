@@ -10,8 +10,8 @@ use Rattle.std.specs.Fmt.{decimal}
 use Rattle.std.specs.List.{list_all}
 use Rattle.std.specs.Str.{bytes_eq}
 use Rattle.net_base.specs.declared.plan.Plan.{Plan}
-use Rattle.command_text.specs.Names.{place_in}
-use Rattle.command_text.specs.Words.{decimal_from, is_decimal, is_digit_of, value_from}
+use Rattle.plan_names.specs.Names.{place_in}
+use Rattle.plan_names.specs.Decimal.{decimal_from, is_decimal, is_digit_of, value_from}
 use Rattle.report_text.specs.Choices.{choice_word, choice_words}
 use Rattle.report_text.specs.declared.choice.Choice.{Choice}
 use Rattle.report_text.specs.Words.{name_or_empty, wire_name}

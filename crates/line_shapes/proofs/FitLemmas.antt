@@ -7,9 +7,9 @@ use Rattle.std.proofs.lemmas.Bool.{and_parts as parts}
 use Rattle.std.proofs.lemmas.Bool.Decides.{nat_tests}
 use Rattle.net_base.specs.declared.plan.Plan.{Plan}
 use Rattle.net_base.specs.plan.NameFaults.{edge_names, circuit_names, wire_names}
-use Rattle.command_text.specs.Names.{place_in}
-use Rattle.command_text.specs.Words.{is_decimal, value_from}
-use Rattle.command_text.proofs.NameLemmas.{place_within}
+use Rattle.plan_names.specs.Names.{place_in}
+use Rattle.plan_names.specs.Decimal.{is_decimal, value_from}
+use Rattle.plan_names.proofs.NameLemmas.{place_within}
 use Rattle.report_text.specs.Choices.{choice_words}
 use Rattle.line_shapes.specs.declared.kind.Kind.{Kind}
 use Rattle.line_shapes.specs.declared.kind.Kind.TheVariants.{Edge, Circuit, Wire, Between, Number, OneOf}

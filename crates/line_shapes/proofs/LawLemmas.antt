@@ -6,7 +6,7 @@ use Rattle.std.proofs.lemmas.Bool.{eqb-true, lt-ltb}
 use Rattle.net_base.specs.declared.plan.Plan.{Plan}
 use Rattle.net_values.proofs.RowLemmas.{same_octets}
 use Rattle.event_laws.specs.Law.{HasNames}
-use Rattle.command_text.specs.Names.{place_in}
+use Rattle.plan_names.specs.Names.{place_in}
 use Rattle.report_text.specs.Choices.{choice_word, choice_words}
 use Rattle.report_text.specs.declared.choice.Choice.{Choice}
 use Rattle.report_text.specs.declared.choice.Choice.TheVariants.{Switch, Cause, End, State}

@@ -6,7 +6,7 @@ use Rattle.std.specs.Str.{bytes_eq}
 use Rattle.std.proofs.lemmas.Bool.Decides.{nat_tests}
 use Rattle.std.proofs.lemmas.List.{length-map}
 use Rattle.std.proofs.lemmas.Slice.Eq.{bytes_eq-Decides}
-use Rattle.command_text.specs.Names.{place_in}
+use Rattle.plan_names.specs.Names.{place_in}
 use Rattle.line_shapes.specs.Shapes.{AreShort, form_at, form_of, has_word, row_of_word}
 use Rattle.line_shapes.specs.declared.shape.Shape.{Shape}
 

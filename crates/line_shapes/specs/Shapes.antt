@@ -5,8 +5,8 @@ use Rattle.std.specs.Str.{bytes_eq}
 use Rattle.net_base.specs.declared.plan.Plan.{Plan}
 use Rattle.net_base.specs.declared.plan.wire_plan.WirePlan.{WirePlan}
 use Rattle.net_base.specs.plan.NameFaults.{edge_names, circuit_names, wire_names}
-use Rattle.command_text.specs.Names.{place_in}
-use Rattle.command_text.specs.Words.{decimal_from}
+use Rattle.plan_names.specs.Names.{place_in}
+use Rattle.plan_names.specs.Decimal.{decimal_from}
 use Rattle.report_text.specs.Choices.{choice_word, choice_words}
 use Rattle.report_text.specs.Words.{edge_name, circuit_name, wire_name}
 use Rattle.line_shapes.specs.declared.kind.Kind.{Kind}

@@ -1,6 +1,6 @@
 //! Words of which a line has one.
 ghost use Rattle.std.specs.{Prelude.{◌≡◌, position}, Str.{bytes_eq}};
-ghost use Rattle.command_text.specs.Names.{place_in};
+ghost use Rattle.plan_names.specs.Names.{place_in};
 ghost use Rattle.report_text.specs.Choices.{choice_words};
 
 use report_text::{Choice, words_of};

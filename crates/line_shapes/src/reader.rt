@@ -1,6 +1,6 @@
 //! The values of lines.
 ghost use Rattle.std.specs.Prelude.{◌≡◌, ◌<◌, ◌≤◌, ◌+◌, bytes_eq, length, map, position, slice_get, option_and_then, IfOk, IfSome};
-ghost use Rattle.command_text.specs.Planned.{names_of};
+ghost use Rattle.plan_names.specs.Planned.{names_of};
 ghost use Rattle.line_shapes.specs.Shapes.{AreValuesOf, AreShort, AreSmall, IsSmall, between_two, first_said, form_at, form_of, word_found, line_said, row_of_word, value_in, values_said};
 
 use crate::choice::place_of;
@@ -8,9 +8,8 @@ use crate::kind::Kind;
 use crate::shape::Shape;
 use crate::values::Values;
 use crate::words::Words;
-use command_text::PlanNames;
-use command_text::decimal::decimal;
 use net_base::Plan;
+use plan_names::{PlanNames, decimal};
 
 // A place as a value.
 fn value_of(place: Option<u16>) -> Option<u64>

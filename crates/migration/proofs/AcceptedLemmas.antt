@@ -11,13 +11,13 @@ use Rattle.net_base.specs.declared.plan.table.Table.{Table}
 use Rattle.net_base.specs.declared.plan.table.Table.TheVariants as kind
 use Rattle.net_base.specs.plan.Accepted.{IsWithinLimits}
 use Rattle.net_base.specs.plan.NameFaults.{edge_names, service_names, circuit_names, wire_names}
-use Rattle.command_text.specs.declared.plan_names.PlanNames.{PlanNames}
+use Rattle.plan_names.specs.declared.plan_names.PlanNames.{PlanNames}
 use Rattle.command_text.specs.declared.row_place.RowPlace.{RowPlace}
 use Rattle.command_text.specs.declared.scenario_fault.ScenarioFault.{ScenarioFault}
 use Rattle.command_text.specs.declared.scenario_fault.ScenarioFault.TheVariants.{TooMany, NotToml}
 use Rattle.command_text.specs.Events.{commands_in, event_in, plays_after, most_events}
 use Rattle.command_text.specs.Places.{top_row}
-use Rattle.command_text.specs.Planned.{names_of}
+use Rattle.plan_names.specs.Planned.{names_of}
 use Rattle.command_text.specs.Reading.{checked}
 use Rattle.event_laws.specs.Law.{HasNames}
 use Rattle.scenario_text.specs.declared.circuit_row.CircuitRow.{CircuitRow}

@@ -11,7 +11,7 @@ use Rattle.net_values.proofs.RowLemmas.{same_octets, octets_apart_back}
 use Rattle.net_base.specs.plan.Accepted.{NonePair}
 use Rattle.net_base.specs.plan.Faults.{clash_after, first_clash}
 use Rattle.command_text.specs.declared.row_place.RowPlace.{RowPlace}
-use Rattle.command_text.specs.Names.{place_in}
+use Rattle.plan_names.specs.Names.{place_in}
 use Rattle.scenario_text.specs.References.{group_in, group_names, groups_differ, number_at, without_repeat}
 use Rattle.migration.specs.Groups.{group_name}
 use Rattle.report_text.specs.Words.{name_or_empty}

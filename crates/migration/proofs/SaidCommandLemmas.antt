@@ -16,13 +16,15 @@ use Rattle.command_text.specs.declared.command.Command.TheVariants.{One, Ticks}
 use Rattle.command_text.specs.declared.scenario_fault.ScenarioFault.{ScenarioFault}
 use Rattle.command_text.specs.declared.scenario_fault.ScenarioFault.TheVariants.{BadWord}
 use Rattle.command_text.specs.Reading.{◌>>=◌, checked, found}
-use Rattle.command_text.specs.Planned.{IsCount, names_of}
+use Rattle.plan_names.specs.Planned.{names_of}
+use Rattle.command_text.specs.Planned.{IsCount}
 use Rattle.command_text.specs.Events.{connect_in, deliver_in, lose_in, restart_in, frame_event_in, packet_in, wire_switch_in, circuit_switch_in, status_in, priority_event_in, ping_in, repeats_in, tick_in, play_in, one, many_of, part_command, packet_command, command_of, event_in, plays_after, commands_in}
 use Rattle.octet_text.specs.Hex.{digit_value, pair_value, unhex}
 use Rattle.command_text.specs.Hex.{of_frame_size, frame_of}
-use Rattle.command_text.specs.Names.{place_in}
-use Rattle.command_text.specs.Words.{is_space, after_word, first_word, word_after, word_at, said_word, ends_before, value_from, is_decimal, decimal_from, switch_of, some_word}
-use Rattle.command_text.proofs.NameLemmas.{place_within}
+use Rattle.plan_names.specs.Names.{place_in}
+use Rattle.plan_names.specs.Decimal.{value_from, is_decimal, decimal_from}
+use Rattle.command_text.specs.Words.{is_space, after_word, first_word, word_after, word_at, said_word, ends_before, switch_of, some_word}
+use Rattle.plan_names.proofs.NameLemmas.{place_within}
 use Rattle.event_laws.specs.Law.{IsEventInRange, IsPacket, IsWritable}
 use Rattle.migration.specs.CommandLaw.{HasNoBlank, IsSaidCommand, AreSaidCommands}
 

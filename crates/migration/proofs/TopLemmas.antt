@@ -7,7 +7,7 @@ use Rattle.net_base.specs.declared.plan.table.Table.{Table}
 use Rattle.net_base.specs.declared.plan.table.Table.TheVariants as kind
 use Rattle.command_text.specs.Events.{commands_in, most_events}
 use Rattle.command_text.specs.Places.{top_row}
-use Rattle.command_text.specs.Planned.{names_of}
+use Rattle.plan_names.specs.Planned.{names_of}
 use Rattle.scenario_text.specs.declared.document_version.DocumentVersion.TheVariants.{Two}
 use Rattle.scenario_text.specs.Keys.{is_known_key}
 use Rattle.scenario_text.specs.Values.{all_items, an_array, is_string, defaulted}

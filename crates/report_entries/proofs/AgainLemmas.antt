@@ -12,8 +12,8 @@ use Rattle.net_base.specs.declared.plan.places.EdgeId.{EdgeId}
 use Rattle.net_base.specs.declared.plan.places.WireId.{WireId}
 use Rattle.net_base.specs.declared.trace.arrival.Arrival.TheVariants as arrival
 use Rattle.net_base.specs.declared.trace.entry.Entry.{Entry}
-use Rattle.command_text.specs.Names.{place_in}
-use Rattle.command_text.specs.Planned.{names_of}
+use Rattle.plan_names.specs.Names.{place_in}
+use Rattle.plan_names.specs.Planned.{names_of}
 use Rattle.text_pieces.specs.Pieces.{hex}
 use Rattle.text_lines.specs.Lines.{line_of}
 use Rattle.report_text.specs.Report.{entry_line, entry_words}

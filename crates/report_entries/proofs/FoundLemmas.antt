@@ -21,8 +21,8 @@ use Rattle.net_base.specs.declared.trace.entry.Entry.TheVariants as entry
 use Rattle.net_base.specs.declared.trace.event.Event.{Event}
 use Rattle.net_base.specs.declared.trace.event.Event.TheVariants as event
 use Rattle.net_base.specs.plan.Accepted.{IsChecked}
-use Rattle.command_text.specs.Names.{place_in}
-use Rattle.command_text.specs.Planned.{names_of}
+use Rattle.plan_names.specs.Names.{place_in}
+use Rattle.plan_names.specs.Planned.{names_of}
 use Rattle.text_pieces.specs.Pieces.{hex}
 use Rattle.text_lines.specs.Lines.{line_of}
 use Rattle.read_lines.specs.Plain.{HasWords}

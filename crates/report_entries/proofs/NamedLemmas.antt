@@ -7,9 +7,9 @@ use Rattle.net_base.specs.declared.plan.Plan.{Plan}
 use Rattle.net_base.specs.declared.trace.arrival.Arrival.TheVariants as arrival
 use Rattle.net_base.specs.declared.trace.entry.Entry.{Entry}
 use Rattle.net_base.specs.plan.Planned.{IsFrame}
-use Rattle.command_text.proofs.NameLemmas.{place_within}
-use Rattle.command_text.specs.Planned.{names_of}
-use Rattle.command_text.specs.Words.{decimal_from, is_decimal, value_from}
+use Rattle.plan_names.proofs.NameLemmas.{place_within}
+use Rattle.plan_names.specs.Planned.{names_of}
+use Rattle.plan_names.specs.Decimal.{decimal_from, is_decimal, value_from}
 use Rattle.text_pieces.specs.Pieces.{hex}
 use Rattle.report_text.specs.Report.{entry_line}
 use Rattle.report_text.specs.Named.{AreOctetsTold, IsArrival, IsCircuit, IsNamedEdge, IsEntryNamed, IsNamedEvent, IsToldNumber, IsWire, IsFromTo}

@@ -20,7 +20,7 @@ use Rattle.net_base.specs.declared.trace.entry.Entry.{Entry}
 use Rattle.net_base.specs.declared.trace.entry.Entry.TheVariants as entry
 use Rattle.net_base.specs.declared.trace.event.Event.{Event}
 use Rattle.net_values.specs.Name.{IsName, is_name_octet_of}
-use Rattle.command_text.specs.Words.{is_digit_of}
+use Rattle.plan_names.specs.Decimal.{is_digit_of}
 use Rattle.text_pieces.specs.Pieces.{hex}
 use Rattle.std.proofs.lemmas.List.Sums.{count_by-le-length}
 use Rattle.report_text.specs.declared.ending.Ending.{Ending}

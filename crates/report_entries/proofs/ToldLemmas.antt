@@ -7,7 +7,7 @@ use Rattle.net_base.specs.declared.plan.Plan.{Plan}
 use Rattle.net_base.specs.declared.trace.entry.Entry.{Entry}
 use Rattle.net_base.specs.declared.trace.entry.Entry.TheVariants as entry
 use Rattle.net_base.specs.plan.Accepted.{IsChecked}
-use Rattle.command_text.specs.Words.{is_decimal, value_from}
+use Rattle.plan_names.specs.Decimal.{is_decimal, value_from}
 use Rattle.text_lines.specs.Lines.{line_of}
 use Rattle.report_text.specs.declared.ending.Ending.{Ending}
 use Rattle.report_text.specs.declared.ending.Ending.TheVariants.{End, Crowded, TooMuch}

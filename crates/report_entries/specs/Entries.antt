@@ -4,8 +4,8 @@ use Rattle.std.specs.Str.{bytes_eq}
 use Rattle.net_base.specs.declared.plan.Plan.{Plan}
 use Rattle.net_base.specs.declared.trace.entry.Entry.{Entry}
 use Rattle.net_base.specs.declared.trace.entry.Entry.TheVariants as entry
-use Rattle.command_text.specs.Planned.{names_of}
-use Rattle.command_text.specs.declared.plan_names.PlanNames.{PlanNames}
+use Rattle.plan_names.specs.Planned.{names_of}
+use Rattle.plan_names.specs.declared.plan_names.PlanNames.{PlanNames}
 use Rattle.report_text.specs.Choices.{cause_at, end_at, state_at}
 use Rattle.report_text.specs.Report.{entry_line}
 use Rattle.report_text.specs.declared.choice.Choice.TheVariants.{Cause, End, State}

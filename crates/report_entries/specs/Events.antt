@@ -5,8 +5,8 @@ use Rattle.std.specs.Str.{bytes_eq}
 use Rattle.net_base.specs.declared.plan.Plan.{Plan}
 use Rattle.net_base.specs.declared.trace.event.Event.{Event}
 use Rattle.net_base.specs.declared.trace.event.Event.TheVariants as event
-use Rattle.command_text.specs.Planned.{names_of}
-use Rattle.command_text.specs.declared.plan_names.PlanNames.{PlanNames}
+use Rattle.plan_names.specs.Planned.{names_of}
+use Rattle.plan_names.specs.declared.plan_names.PlanNames.{PlanNames}
 use Rattle.report_text.specs.declared.choice.Choice.TheVariants.{Switch}
 use Rattle.line_shapes.specs.Shapes.{Form, form, line_said, told_by, nth_value}
 use Rattle.line_shapes.specs.declared.kind.Kind.TheVariants.{Edge, Circuit, Wire, Number, OneOf}

@@ -8,9 +8,9 @@ use Rattle.net_base.specs.declared.plan.places.WireId.{WireId}
 use Rattle.net_base.specs.declared.trace.arrival.Arrival.{Arrival}
 use Rattle.net_base.specs.declared.trace.arrival.Arrival.TheVariants as arrival
 use Rattle.octet_text.specs.Hex.{is_small, unhex}
-use Rattle.command_text.specs.declared.plan_names.PlanNames.{PlanNames}
-use Rattle.command_text.specs.Names.{place_in}
-use Rattle.command_text.specs.Words.{decimal_from}
+use Rattle.plan_names.specs.declared.plan_names.PlanNames.{PlanNames}
+use Rattle.plan_names.specs.Names.{place_in}
+use Rattle.plan_names.specs.Decimal.{decimal_from}
 use Rattle.report_entries.specs.declared.unread.Unread.{Unread}
 use Rattle.report_entries.specs.declared.unread.Unread.TheVariants.{NoEntry, NoMemory}
 

@@ -3,7 +3,7 @@ use Rattle.std.specs.Prelude.{◌==◌, ◌&&◌, ◌||◌, ◌+◌, ◌++◌, c
 use Rattle.std.specs.Str.{bytes_eq}
 use Rattle.net_base.specs.declared.plan.Plan.{Plan}
 use Rattle.net_base.specs.declared.trace.entry.Entry.{Entry}
-use Rattle.command_text.specs.Words.{is_decimal}
+use Rattle.plan_names.specs.Decimal.{is_decimal}
 use Rattle.report_text.specs.Report.{counts_words}
 use Rattle.text_lines.specs.Lines.{line_of}
 use Rattle.octet_text.specs.Cut.{before_mark, behind_mark}

@@ -1,6 +1,6 @@
 //! The entries that lines tell.
 ghost use Rattle.std.specs.Prelude.{◌≡◌, ◌<◌, map};
-ghost use Rattle.command_text.specs.Planned.{names_of};
+ghost use Rattle.plan_names.specs.Planned.{names_of};
 ghost use Rattle.line_shapes.specs.Shapes.{AreValuesOf, AreSmall, form_at, form_of};
 ghost use Rattle.report_entries.specs.Entries.{did_in, entered_in, entry_forms, entry_made, left_in, row_entry, said_in, sent_in, words_entry};
 ghost use Rattle.report_entries.specs.Reading.{Reads};
@@ -10,10 +10,10 @@ use crate::event::event;
 use crate::passed::{Carried, Passed, read_carried, read_passed};
 use crate::told_words::ToldWords;
 use crate::values::{circuit, edge, number, octets};
-use command_text::PlanNames;
 use line_shapes::Kind::{Edge, Number, OneOf, Wire};
 use line_shapes::{Shape, Values, is_word, read_shaped};
 use net_base::{Entry, Plan};
+use plan_names::PlanNames;
 use report_text::Choice::{Cause, End, State};
 use report_text::{cause_at, end_at, state_at};
 use std::alloc::Global;

@@ -1,13 +1,13 @@
 //! The entry that a line tells.
 ghost use Rattle.std.specs.Prelude.{◌≡◌, map, IfOk};
-ghost use Rattle.command_text.specs.Planned.{names_of};
+ghost use Rattle.plan_names.specs.Planned.{names_of};
 ghost use Rattle.report_text.specs.Named.{IsEntryNamed};
 ghost use Rattle.report_entries.specs.{Answers.{Finds}, Cut.{line_words}, Entries.{line_entry}, Reading.{Reads}, Report.{found_on_line}};
 
 use crate::entry::words_entry;
 use crate::{ReportFault, Unread};
-use command_text::PlanNames;
 use net_base::{Entry, Plan};
+use plan_names::PlanNames;
 use std::alloc::Global;
 
 // The entry of a line with these words. No two words say the same, so that this is its line.

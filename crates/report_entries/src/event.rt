@@ -1,6 +1,6 @@
 //! The events that lines tell.
 ghost use Rattle.std.specs.Prelude.{◌≡◌, ◌<◌, map};
-ghost use Rattle.command_text.specs.Planned.{names_of};
+ghost use Rattle.plan_names.specs.Planned.{names_of};
 ghost use Rattle.line_shapes.specs.Shapes.{AreValuesOf, AreSmall, form_at, form_of};
 ghost use Rattle.report_entries.specs.Events.{event_forms, event_made, event_told, frame_told, row_event};
 ghost use Rattle.report_entries.specs.Reading.{Reads};
@@ -8,10 +8,10 @@ ghost use Rattle.report_entries.specs.Reading.{Reads};
 use crate::Unread;
 use crate::told_words::ToldWords;
 use crate::values::{circuit, octets};
-use command_text::PlanNames;
 use line_shapes::Kind::{Circuit, Edge, Number, OneOf, Wire};
 use line_shapes::{Shape, Values, is_word, read_shaped};
 use net_base::{Event, Plan};
+use plan_names::PlanNames;
 use report_text::Choice::Switch;
 use std::alloc::Global;
 

@@ -4,8 +4,8 @@ ghost use Rattle.report_entries.specs.{Entries.{carried_in, passed_in}, Reading.
 
 use crate::Unread;
 use crate::values::{arrival, number, octets, wire};
-use command_text::PlanNames;
 use net_base::{Arrival, Octets, WireId};
+use plan_names::PlanNames;
 use std::alloc::Global;
 
 /// A frame on its way: its number, the segments that it has passed, and its octets.

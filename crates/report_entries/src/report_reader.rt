@@ -1,6 +1,6 @@
 //! Reading a report line by line.
 ghost use Rattle.std.specs.Prelude.{◌≡◌, ◌<◌, ◌≤◌, ◌+◌, ◌^◌, [], length, IfOk, IfSome, OnOk};
-ghost use Rattle.command_text.specs.Planned.{names_of};
+ghost use Rattle.plan_names.specs.Planned.{names_of};
 ghost use Rattle.report_text.specs.Named.{IsEntryNamed};
 ghost use Rattle.report_entries.specs.{Answers.{Begins, ReportGoesOn}, Counted.{AreTallied}};
 
@@ -10,10 +10,10 @@ use crate::entry_line::entry_at;
 use crate::last_line::is_last_line;
 use crate::line_writer::LineWriter;
 use crate::tally::Tally;
-use command_text::PlanNames;
 use line_shapes::is_word;
 use net_base::{Entry, Plan};
 use octet_text::cut_at;
+use plan_names::PlanNames;
 use std::alloc::Global;
 use std::marker::Model;
 

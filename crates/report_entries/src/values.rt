@@ -2,11 +2,10 @@
 ghost use Rattle.report_entries.specs.Reading.{Reads, arrival_in, circuit_of_word, digits_told, edge_of_word, number_in, wire_of_word};
 
 use crate::Unread;
-use command_text::PlanNames;
-use command_text::decimal::decimal;
 use line_shapes::is_word;
 use net_base::{Arrival, CircuitId, EdgeId, NoMemory, Octets, WireId};
 use octet_text::octets_of;
+use plan_names::{PlanNames, decimal};
 use std::alloc::Global;
 
 /// The edge of a name.

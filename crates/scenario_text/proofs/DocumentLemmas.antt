@@ -8,11 +8,12 @@ use Rattle.std.specs.Str.{IsUtf8, is_utf8}
 use Rattle.toml.specs.Parse.{parse_document}
 use Rattle.net_base.specs.declared.plan.Plan.{Plan}
 use Rattle.command_text.specs.declared.command.Command.{Command}
-use Rattle.command_text.specs.declared.plan_names.PlanNames.{PlanNames}
+use Rattle.plan_names.specs.declared.plan_names.PlanNames.{PlanNames}
 use Rattle.command_text.specs.declared.scenario_fault.ScenarioFault.{ScenarioFault}
 use Rattle.command_text.specs.declared.scenario_fault.ScenarioFault.TheVariants.{NotToml}
 use Rattle.command_text.specs.Reading.{Gives}
-use Rattle.command_text.specs.Planned.{names_of, IsInRows, IsInPlanNames, IsPlanned}
+use Rattle.plan_names.specs.Planned.{names_of}
+use Rattle.command_text.specs.Planned.{IsInRows, IsInPlanNames, IsPlanned}
 use Rattle.scenario_text.specs.declared.scenario.Scenario.{Scenario}
 use Rattle.scenario_text.specs.Document.{scenario_or, document}
 

@@ -10,7 +10,7 @@ use Rattle.command_text.specs.declared.scenario_fault.ScenarioFault.{ScenarioFau
 use Rattle.command_text.specs.declared.scenario_fault.ScenarioFault.TheVariants.{NotToml}
 use Rattle.command_text.specs.Reading.{◌>>=◌}
 use Rattle.command_text.specs.Events.{commands_in}
-use Rattle.command_text.specs.Planned.{names_of}
+use Rattle.plan_names.specs.Planned.{names_of}
 use Rattle.scenario_text.specs.declared.scenario.Scenario.{Scenario}
 use Rattle.scenario_text.specs.Rows.{edge_in, service_in, group_row_in, circuit_row_in, wire_row_in, rows_in}
 use Rattle.scenario_text.specs.Top.{Arrays, arrays_in}

@@ -19,7 +19,7 @@ use Rattle.command_text.specs.declared.scenario_fault.ScenarioFault.{ScenarioFau
 use Rattle.command_text.specs.declared.scenario_fault.ScenarioFault.TheVariants as fault
 use Rattle.command_text.specs.Reading.{◌>>=◌, found}
 use Rattle.command_text.specs.Places.{place_of_key}
-use Rattle.command_text.specs.Names.{place_in}
+use Rattle.plan_names.specs.Names.{place_in}
 use Rattle.scenario_text.specs.declared.plan.PlacedRows.{PlacedRows}
 use Rattle.scenario_text.specs.declared.circuit_row.CircuitRow.{CircuitRow}
 use Rattle.scenario_text.specs.declared.group_row.GroupRow.{GroupRow}

@@ -5,8 +5,9 @@ ghost use Rattle.scenario_text.specs.{References.{circuit_in, circuit_plans}, To
 
 use crate::circuit_row::CircuitRow;
 use crate::named::named_place;
-use command_text::{NameIndex, RowPlace, ScenarioFault};
+use command_text::{RowPlace, ScenarioFault};
 use net_base::{CircuitPlan, EdgeId, List, ServiceId, Table as TableKind};
+use plan_names::NameIndex;
 use std::alloc::Global;
 
 // The circuit of a row.

@@ -2,7 +2,8 @@
 ghost use Rattle.std.specs.{Prelude.{◌≡◌, ◌≤◌, length, IfOk}, List.{All}};
 ghost use Rattle.net_base.specs.plan.Accepted.{IsWithinLimits, IsChecked};
 ghost use Rattle.toml.specs.{Parse.{parse_document}, View.{items_view, table_view}};
-ghost use Rattle.command_text.specs.{Events.{commands_in, most_events}, Reading.{Gives}, Planned.{names_of, IsPlanned}};
+ghost use Rattle.plan_names.specs.Planned.{names_of};
+ghost use Rattle.command_text.specs.{Events.{commands_in, most_events}, Reading.{Gives}, Planned.{IsPlanned}};
 ghost use Rattle.scenario_text.specs.{Arrays.{arrays_of, HasLimits}, Document.{plan_in, scenario_in, scenario_or, document}};
 
 use crate::Scenario;
@@ -13,8 +14,9 @@ use crate::plan::plan;
 use crate::port_rows::PortRows;
 use crate::rows::rows;
 use crate::wire_row::WireRow;
-use command_text::{Command, NameLists, ScenarioFault, read_commands};
+use command_text::{Command, ScenarioFault, read_commands};
 use net_base::{EdgePlan, List, NoMemory, Plan, ServicePlan, Table as TableKind};
+use plan_names::NameLists;
 use std::alloc::Global;
 use toml::{Table, Value};
 

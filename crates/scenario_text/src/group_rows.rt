@@ -1,7 +1,7 @@
 //! The groups of a document.
 
 use crate::group_row::GroupRow;
-use command_text::NameIndex;
+use plan_names::NameIndex;
 
 /// The groups of a document, and the index of their names.
 #[derive(Clone, Copy)]

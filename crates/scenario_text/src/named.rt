@@ -2,8 +2,9 @@
 ghost use Rattle.std.specs.Prelude.{◌≡◌, ◌<◌, length, IfOk};
 ghost use Rattle.scenario_text.specs.References.{named};
 
-use command_text::{NameIndex, RowPlace, ScenarioFault};
+use command_text::{RowPlace, ScenarioFault};
 use net_base::Name;
+use plan_names::NameIndex;
 
 /// The place of a name that a row has at a key. `UnknownName` comes exactly where it is not among the names.
 pub fn named_place(

@@ -4,8 +4,8 @@ ghost use Rattle.net_base.specs.plan.Accepted.{plan_names};
 ghost use Rattle.scenario_text.specs.References.{group_names};
 
 use crate::group_row::GroupRow;
-use command_text::{names_of_circuits, names_of_edges, names_of_services, names_of_wires};
 use net_base::{Name, Plan};
+use plan_names::{names_of_circuits, names_of_edges, names_of_services, names_of_wires};
 use std::alloc::{AllocError, Global};
 
 /// The names of groups in order.

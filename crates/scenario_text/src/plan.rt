@@ -1,7 +1,8 @@
 //! The plan of a document.
 ghost use Rattle.std.specs.Prelude.{◌≡◌, ◌≤◌, length, IfOk};
 ghost use Rattle.net_base.specs.{plan.Accepted.{IsWithinLimits, IsChecked, plan_names}, plan.NameFaults.{edge_names, service_names}};
-ghost use Rattle.command_text.specs.{Names.{are_distinct}, Reading.{Gives}};
+ghost use Rattle.plan_names.specs.Names.{are_distinct};
+ghost use Rattle.command_text.specs.Reading.{Gives};
 ghost use Rattle.scenario_text.specs.References.{group_names, passed, sound, sound_with, placed_rows, plan_of};
 ghost use Rattle.scenario_text.specs.Top.{most_edges, most_services, most_groups, most_circuits, most_wires};
 
@@ -13,8 +14,9 @@ use crate::names::{names_of_groups, names_of_plan};
 use crate::port_rows::PortRows;
 use crate::service_rows::ServiceRows;
 use crate::wires::wires;
-use command_text::{NameIndex, ScenarioFault, names_of_edges, names_of_services};
+use command_text::ScenarioFault;
 use net_base::{CircuitPlan, EdgePlan, List, NoMemory, Plan, ServicePlan, WirePlan};
+use plan_names::{NameIndex, names_of_edges, names_of_services};
 use std::alloc::Global;
 
 // Whether the names of a plan differ, over all its lists. An index is given to `drop`, since its end at a brace proves slowly.

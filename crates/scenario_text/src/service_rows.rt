@@ -1,7 +1,7 @@
 //! The services of a document.
 
-use command_text::NameIndex;
 use net_base::ServicePlan;
+use plan_names::NameIndex;
 
 /// The services of a document, and the index of their names.
 #[derive(Clone, Copy)]

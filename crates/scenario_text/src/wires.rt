@@ -12,8 +12,9 @@ use crate::named::named_place;
 use crate::offer_row::OfferRow;
 use crate::service_rows::ServiceRows;
 use crate::wire_row::WireRow;
-use command_text::{NameIndex, RowPlace, ScenarioFault};
+use command_text::{RowPlace, ScenarioFault};
 use net_base::{EdgeId, List, Name, Offer, ServiceId, ServicePlan, Table as TableKind, WirePlan};
+use plan_names::NameIndex;
 use std::alloc::Global;
 
 // The number of the group at a place.

@@ -1,12 +1,14 @@
 //! One command.
 ghost use Rattle.std.specs.Prelude.{◌≡◌, IfOk};
 ghost use Rattle.net_base.specs.{declared.plan.Plan.{Plan}, plan.Accepted.{IsChecked}};
-ghost use Rattle.command_text.specs.{Events.{command_in}, Planned.{names_of, IsPlanned}};
+ghost use Rattle.plan_names.specs.Planned.{names_of};
+ghost use Rattle.command_text.specs.{Events.{command_in}, Planned.{IsPlanned}};
 ghost use Rattle.scenario_text.specs.WordReading.{ReadsWords};
 
 use crate::word_fault::WordFault;
-use command_text::{Command, NameLists, PlanNames, ScenarioFault, read_one};
+use command_text::{Command, ScenarioFault, read_one};
 use net_base::{NoMemory, Plan};
+use plan_names::{NameLists, PlanNames};
 use std::alloc::Global;
 
 /// The command that words are, parted by one space each, which names rows of a plan by these names. `Bad` comes exactly at the first

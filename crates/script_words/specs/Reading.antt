@@ -1,7 +1,7 @@
 -- What the words of a line say.
 use Rattle.std.specs.Prelude.{◌-◌, ◌+◌, nat_le, ℕ, Bool, true, List, [], ◌∷◌, length, slice_get, Option, Some, None, Result, Ok, Err, if◌then◌else◌}
 use Rattle.net_base.specs.declared.plan.places.EdgeId.{EdgeId}
-use Rattle.command_text.specs.Names.{place_in}
+use Rattle.plan_names.specs.Names.{place_in}
 use Rattle.script_text.specs.declared.script_fault.ScriptFault.{ScriptFault}
 use Rattle.script_text.specs.declared.script_fault.ScriptFault.TheVariants.{Bad}
 use Rattle.script_text.specs.Reading.{◌>>=◌}

@@ -1,11 +1,10 @@
 //! Lines of a script by their words.
 ghost use Rattle.std.specs.Prelude.{◌≡◌, ◌<◌, ◌≤◌, ◌+◌, ◌-◌, ◌^◌, length, IfOk};
-ghost use Rattle.command_text.specs.{Names.{place_in}, Words.{decimal_from}};
+ghost use Rattle.plan_names.specs.{Names.{place_in}, Decimal.{decimal_from}};
 ghost use Rattle.script_words.specs.Reading.{edges_said, ends_behind, first_of, said_at};
 
-use command_text::decimal::decimal;
-use command_text::{NameIndex, PlanNames};
 use net_base::EdgeId;
+use plan_names::{NameIndex, PlanNames, decimal};
 use script_text::{Line, ScriptFault};
 
 /// A line of a script with its number, and the names of which its words may speak. Words are counted from 1.

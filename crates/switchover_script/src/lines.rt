@@ -1,14 +1,14 @@
 //! The lines of a script.
 ghost use Rattle.std.specs.Prelude.{◌≡◌, ◌<◌, ◌≤◌, length, map, IfOk};
-ghost use Rattle.command_text.specs.Planned.{names_of};
+ghost use Rattle.plan_names.specs.Planned.{names_of};
 ghost use Rattle.line_shapes.specs.Shapes.{AreValuesOf, AreSmall, form_at, form_of, nth_value};
 ghost use Rattle.switchover_model.specs.Planned.{IsLineOf};
 ghost use Rattle.switchover_script.specs.Lines.{switch_apart, switch_forms, switch_line_of, switch_made};
 
-use command_text::PlanNames;
 use line_shapes::Kind::{Between, Edge, Number};
 use line_shapes::{Shape, Values, read_shaped, shape_at};
 use net_base::Plan;
+use plan_names::PlanNames;
 use script_text::ScriptFault;
 use script_words::NumberedLine;
 use status_exchange::Wish;

@@ -1,14 +1,14 @@
 //! A whole script.
 ghost use Rattle.std.specs.Prelude.{◌≡◌, ◌<◌, ◌^◌, ◌-◌, All, IfOk, length};
-ghost use Rattle.command_text.specs.Planned.{names_of};
+ghost use Rattle.plan_names.specs.Planned.{names_of};
 ghost use Rattle.net_base.specs.plan.Accepted.{IsChecked};
 ghost use Rattle.script_text.specs.Reading.{GivesScript};
 ghost use Rattle.switchover_model.specs.Planned.{IsLineOf};
 ghost use Rattle.switchover_script.specs.Lines.{switch_lines_in};
 
 use crate::lines::read_line;
-use command_text::{NameLists, PlanNames};
 use net_base::{List, NoMemory, Plan};
+use plan_names::{NameLists, PlanNames};
 use script_text::{ScriptFault, read_lines};
 use script_words::NumberedLine;
 use std::alloc::Global;

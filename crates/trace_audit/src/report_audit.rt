@@ -1,14 +1,14 @@
 //! The report of a run, judged line by line.
 ghost use Rattle.std.specs.Prelude.{◌≡◌, ◌<◌, ◌≤◌, ◌+◌, ◌^◌, [], OnOk};
 ghost use Rattle.net_base.specs.plan.Accepted.{IsChecked};
-ghost use Rattle.command_text.specs.Planned.{names_of};
+ghost use Rattle.plan_names.specs.Planned.{names_of};
 ghost use Rattle.report_entries.specs.Answers.{HasBegun};
 ghost use Rattle.trace_audit.specs.{Audited.{IsAudited}, Heard.{IsAuditOf, HearsReport, HearsLine}};
 
 use crate::AuditStop;
 use crate::rule_audit::RuleAudit;
-use command_text::{NameLists, PlanNames};
 use net_base::{NoMemory, Plan};
+use plan_names::{NameLists, PlanNames};
 use report_entries::ReportReader;
 use std::alloc::Global;
 

@@ -13,7 +13,8 @@ use Rattle.net_base.specs.plan.Paths.{are_joined}
 use Rattle.net_base.specs.plan.Planned.{IsEventOf, IsFrame}
 use Rattle.command_run.specs.Made.{made_by}
 use Rattle.command_run.proofs.PlannedLemmas.{made_planned}
-use Rattle.command_text.specs.Planned.{IsPlanned, names_of}
+use Rattle.plan_names.specs.Planned.{names_of}
+use Rattle.command_text.specs.Planned.{IsPlanned}
 use Rattle.discovery_net.specs.Acts.{Act, Does, Tells, events_in}
 use Rattle.discovery_net.specs.Deeds.{Discovery as DiscoveryState, Hello, adjacency_lives, hello_numbered, octets_of_hello, discovery_opened}
 use Rattle.discovery_net.specs.Lines.{Lapse, acts_of, after_line, bring_acts, downs, lapses_from, lapses_with, may_open, next_hello}

@@ -11,7 +11,7 @@ use Rattle.discovery_script.specs.declared.script_line.ScriptLine.{ScriptLine}
 use Rattle.discovery_script.specs.Lines.{discovery_lines_in}
 use Rattle.discovery_text.specs.Text.{discovery_report}
 use Rattle.command_text.specs.declared.scenario_fault.ScenarioFault.{ScenarioFault}
-use Rattle.command_text.specs.Planned.{names_of}
+use Rattle.plan_names.specs.Planned.{names_of}
 use Rattle.capture_text.specs.Capture.{capture_text}
 use Rattle.ldp_stream.specs.Parsed.{PlacedPdu}
 use Rattle.ldp_stream.proofs.ParsedLemmas.{one_parsing}

@@ -1,7 +1,7 @@
 -- What the words of the command line ask for.
 use Rattle.std.specs.Prelude.{◌&&◌, ◌==◌, ◌-◌, ◌^◌, not, nat_lt, codes, ℕ, Bool, List, [], ◌∷◌, length, slice_index, Option, Some, None, option_map, if◌then◌else◌}
 use Rattle.std.specs.Str.{bytes_eq}
-use Rattle.command_text.specs.Words.{decimal_from}
+use Rattle.plan_names.specs.Decimal.{decimal_from}
 use Rattle.vplsnet.specs.declared.request.Request.{Request}
 use Rattle.vplsnet.specs.declared.request.Request.TheVariants as request
 use Rattle.vplsnet.specs.declared.run_request.RunRequest.{RunRequest}

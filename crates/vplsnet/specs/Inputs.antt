@@ -4,7 +4,7 @@ use Rattle.net_base.specs.declared.plan.Plan.{Plan}
 use Rattle.command_text.specs.declared.command.Command.{Command}
 use Rattle.command_text.specs.declared.command.Command.TheVariants.{One, Settle, Flow, Ticks, Play}
 use Rattle.command_text.specs.declared.scenario_fault.ScenarioFault.{ScenarioFault}
-use Rattle.command_text.specs.Planned.{names_of}
+use Rattle.plan_names.specs.Planned.{names_of}
 use Rattle.discovery_script.specs.declared.script_line.ScriptLine.{ScriptLine}
 use Rattle.discovery_script.specs.Lines.{discovery_lines_in}
 use Rattle.pcap_file.specs.declared.capture_fault.CaptureFault.{CaptureFault}

@@ -3,8 +3,8 @@ ghost use Rattle.std.specs.Prelude.{◌≡◌, map, option_map, string_bytes};
 ghost use Rattle.vplsnet.specs.Asked.{asked, asked_by, is_plain_argument, one_word_command, two_word_command};
 
 use crate::run_request::RunRequest;
-use command_text::decimal::decimal;
 use command_text::is_same;
+use plan_names::decimal;
 
 /// A command with what its words name.
 #[derive(Clone, Copy)]

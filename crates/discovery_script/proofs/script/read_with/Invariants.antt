@@ -2,7 +2,7 @@
 use Rattle.std.proofs.Common.{◌≡◌, ◌+◌, drop}
 use Rattle.std.specs.List.{All}
 use Rattle.net_base.specs.declared.plan.Plan.{Plan}
-use Rattle.command_text.specs.Planned.{names_of}
+use Rattle.plan_names.specs.Planned.{names_of}
 use Rattle.script_text.specs.Reading.{with_front_lines}
 use Rattle.script_words.specs.Reading.{lines_said}
 use Rattle.discovery_script.specs.Lines.{discovery_line_of}

@@ -1,6 +1,6 @@
 -- The place among the words is the one among their octets.
 use Rattle.std.proofs.Common.{◌∙◌, ℕ, List, ap}
-use Rattle.command_text.specs.Names.{place_in}
+use Rattle.plan_names.specs.Names.{place_in}
 use Rattle.line_shapes.proofs.RowLemmas.{place_is}
 use Rattle.line_shapes.proofs.choice.place_of.Goals as goal
 

@@ -1,8 +1,8 @@
 -- The map gives the name's first place.
 use Rattle.std.proofs.Common.{◌∙◌, [], Some, None}
 use Rattle.std.proofs.lemmas.List.{get_or_read}
-use Rattle.command_text.proofs.NameLemmas.{first_there}
-use Rattle.command_text.proofs.name_index.is_first.Goals as goal
+use Rattle.plan_names.proofs.NameLemmas.{first_there}
+use Rattle.plan_names.proofs.name_index.is_first.Goals as goal
 
 pub returns-in-Some : goal.returns-in-Some
 returns-in-Some c =

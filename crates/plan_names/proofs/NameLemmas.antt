@@ -13,7 +13,7 @@ use Rattle.std.specs.Cmp.Lexicographic.{nat_list_eq_equiv}
 use Rattle.net_values.proofs.OptionLemmas.{within_of, placed}
 use Rattle.net_base.specs.plan.Faults.{clash_after}
 use Rattle.net_base.proofs.ClashLemmas.{clash_found, clash_passed}
-use Rattle.command_text.specs.Names.{place_in, FindsNames}
+use Rattle.plan_names.specs.Names.{place_in, FindsNames}
 use denote.Ref.{Bor}
 
 -- the first place that passes, of places from i on

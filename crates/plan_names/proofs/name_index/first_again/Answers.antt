@@ -1,7 +1,7 @@
 -- A name that stands nowhere before is passed, and the first that does is the answer.
 use Rattle.std.proofs.Common.{◌∙◌, sym}
-use Rattle.command_text.proofs.NameLemmas.{found_at, passed_at}
-use Rattle.command_text.proofs.name_index.first_again.Goals as goal
+use Rattle.plan_names.proofs.NameLemmas.{found_at, passed_at}
+use Rattle.plan_names.proofs.name_index.first_again.Goals as goal
 
 pub returns-then-not-is_first-clause-place : goal.returns-then-not-is_first-clause-place
 returns-then-not-is_first-clause-place c =

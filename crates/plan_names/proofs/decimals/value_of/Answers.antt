@@ -1,7 +1,7 @@
 -- A value that is above the limit stays there.
 use Rattle.std.proofs.Common.{refl}
-use Rattle.command_text.proofs.DecimalLemmas.{too_large_at}
-use Rattle.command_text.proofs.decimal.value_of.Goals as goal
+use Rattle.plan_names.proofs.DecimalLemmas.{too_large_at}
+use Rattle.plan_names.proofs.decimals.value_of.Goals as goal
 
 pub returns-then-next-limit : goal.returns-then-next-limit
 returns-then-next-limit c =

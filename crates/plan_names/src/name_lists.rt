@@ -1,7 +1,7 @@
 //! The names of a plan by which commands name its rows.
 ghost use Rattle.std.specs.Prelude.{◌≡◌, ◌≤◌, length, IfOk};
 ghost use Rattle.net_base.specs.plan.Accepted.{IsWithinLimits};
-ghost use Rattle.command_text.specs.Planned.{names_of};
+ghost use Rattle.plan_names.specs.Planned.{names_of};
 
 use crate::name_index::NameIndex;
 use crate::plan_names::PlanNames;
@@ -20,7 +20,7 @@ pub struct NameLists {
 
 impl Model for NameLists {
     ghost use Rattle.std.specs.Prelude.{◌≤◌, length};
-    ghost use Rattle.command_text.specs.declared.plan_names.PlanNames.{PlanNames};
+    ghost use Rattle.plan_names.specs.declared.plan_names.PlanNames.{PlanNames};
 
     ghost Value = { PlanNames };
 

@@ -1,7 +1,7 @@
 -- One more name has its place, until all have.
 use Rattle.std.proofs.Common.{◌≡◌, ◌∙◌, ◌-◌, ◌+◌, ◌<◌, length, arith, sym, ap, get_or}
-use Rattle.command_text.proofs.NameLemmas.{finds_more, finds_all}
-use Rattle.command_text.proofs.name_index.places_of.Goals as goal
+use Rattle.plan_names.proofs.NameLemmas.{finds_more, finds_all}
+use Rattle.plan_names.proofs.name_index.places_of.Goals as goal
 
 pub placing-preserved : goal.placing-preserved
 placing-preserved c =

@@ -1,8 +1,15 @@
--- The value of digits grows.
-use Rattle.std.proofs.Common.{◌≡◌, ◌<◌, ◌≤◌, ◌∙◌, ◌+◌, ◌-◌, ◌*◌, ℕ, false, List, [], ◌∷◌, nat_le, length, drop, get_or, sym, ap, arith}
+-- Digits, and their value, which grows.
+use Rattle.std.proofs.Common.{◌≡◌, ◌<◌, ◌≤◌, ◌∙◌, ◌+◌, ◌-◌, ◌*◌, ℕ, true, false, List, [], ◌∷◌, nat_le, length, drop, get_or, sym, ap, arith}
 use Rattle.std.proofs.lemmas.List.{drop_more}
 use Rattle.std.proofs.lemmas.Bool.{lt-leb}
-use Rattle.command_text.specs.Words.{value_from}
+use Rattle.std.proofs.lemmas.Bool.Decides.{nat_tests}
+use Rattle.plan_names.specs.Decimal.{is_digit_of, value_from}
+
+pub in_range : (c : ℕ) → is_digit_of c ≡ true → (48 ≤ c) × (c ≤ 57)
+in_range c e = grind (arith, nat_tests, e)
+
+pub is_digit : (c : ℕ) → (48 ≤ c) × (c ≤ 57) → is_digit_of c ≡ true
+is_digit c k = grind (arith, nat_tests, k.0, k.1)
 
 value_grows : (before : ℕ) (ds : List ℕ) → before ≤ value_from before ds
 value_grows before [] = omega arith

@@ -1,6 +1,6 @@
 //! Decimal numbers without leading zeros.
 ghost use Rattle.std.specs.{Prelude.{◌≡◌, ◌≤◌, nat_le, if◌then◌else◌, Some, None, true, IfSome}, List.{list_all}};
-ghost use Rattle.command_text.specs.Words.{is_digit_of, value_from, decimal_from};
+ghost use Rattle.plan_names.specs.Decimal.{is_digit_of, value_from, decimal_from};
 
 // Whether all are digits.
 fn are_digits(text: &[u8]) -> bool

@@ -1,7 +1,7 @@
 //! Names by which their places are found.
 ghost use Rattle.std.specs.{Prelude.{◌≡◌, ◌<◌, ◌≤◌, [], not, length, take, get_or, IfOk, IfSome}, List.{list_any}, Str.{bytes_eq}};
 ghost use Rattle.net_base.specs.plan.Faults.{first_clash};
-ghost use Rattle.command_text.specs.Names.{place_in, are_distinct, FindsNames};
+ghost use Rattle.plan_names.specs.Names.{place_in, are_distinct, FindsNames};
 
 use indexmap::IndexMap;
 use net_base::{Name, NoMemory};
@@ -18,7 +18,7 @@ pub struct NameIndex<'a> {
 
 impl<'a> Model for NameIndex<'a> {
     ghost use Rattle.std.specs.Prelude.{List, ℕ};
-    ghost use Rattle.command_text.specs.Names.{FindsNames};
+    ghost use Rattle.plan_names.specs.Names.{FindsNames};
 
     ghost Value = { List (List ℕ) };
 

@@ -1,7 +1,7 @@
 -- The names from `at` on have their places.
 use Rattle.std.proofs.Common.{◌≤◌, length}
-use Rattle.command_text.proofs.NameLemmas.{FindsFrom}
-use Rattle.command_text.proofs.name_index.places_of.Given as goal
+use Rattle.plan_names.proofs.NameLemmas.{FindsFrom}
+use Rattle.plan_names.proofs.name_index.places_of.Given as goal
 
 abbrev pub invariant-placing : goal.invariant-placing
 invariant-placing l = FindsFrom l.at l.names l.places.entries × (l.at ≤ length l.names)
