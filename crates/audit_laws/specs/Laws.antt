@@ -2,7 +2,7 @@
 use Rattle.std.specs.Prelude.{◌≡◌, ℕ, List, Result, Ok}
 use Rattle.net_base.specs.declared.plan.Plan.{Plan}
 use Rattle.net_base.specs.declared.trace.event.Event.{Event}
-use Rattle.event_laws.specs.Law.{HasNames}
+use Rattle.plan_names.specs.Planned.{HasNames}
 use Rattle.network_model.specs.Run.{run}
 use Rattle.flight_laws.specs.Laws.{IsRun}
 use Rattle.report_text.specs.Read.{ReadReport}

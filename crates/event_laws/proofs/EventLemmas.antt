@@ -14,16 +14,18 @@ use Rattle.report_text.specs.Words.{edge_name, circuit_name, wire_name, switch_n
 use Rattle.command_text.specs.declared.command.Command.{Command}
 use Rattle.command_text.specs.declared.command.Command.TheVariants.{One}
 use Rattle.plan_names.specs.declared.plan_names.PlanNames.{PlanNames}
-use Rattle.plan_names.specs.Planned.{names_of}
+use Rattle.plan_names.specs.Planned.{HasNames, names_of}
 use Rattle.command_text.specs.Events.{connect_in, deliver_in, lose_in, restart_in, frame_event_in, packet_in, wire_switch_in, circuit_switch_in, status_in, priority_event_in, ping_in, many_of, part_command, packet_command, command_of, command_in}
 use Rattle.command_text.specs.Hex.{frame_of}
 use Rattle.plan_names.specs.Names.{place_in}
 use Rattle.plan_names.specs.Decimal.{decimal_from}
 use Rattle.command_text.specs.Words.{is_space, switch_of}
 use Rattle.text_pieces.specs.Pieces.{hex}
-use Rattle.event_laws.specs.Law.{joined_words, HasNames, ReadsWhatIsWritten}
+use Rattle.event_laws.specs.Law.{joined_words, ReadsWhatIsWritten}
 use Rattle.event_laws.proofs.WordLemmas.{IsWhole, AreWhole, first_of, word_is, said_is, ends_is}
-use Rattle.event_laws.proofs.ValueLemmas.{whole_by, decimal_whole, number_said, octets_whole, frame_said, switch_said, switch_whole, row_said, row_whole}
+use Rattle.plan_names.proofs.DecimalLemmas.{number_said}
+use Rattle.line_shapes.proofs.NameLemmas.{row_said}
+use Rattle.event_laws.proofs.ValueLemmas.{whole_by, decimal_whole, octets_whole, frame_said, switch_said, switch_whole, row_whole}
 
 edge_said : (plan : Plan) (edge : EdgeId) → HasNames plan → edge.0 < length plan.edges → place_in (edge_names plan.edges) (edge_name plan edge) ≡ Some edge.0
 edge_said plan edge names lt = row_said (λ row. row.name) plan.edges edge.0 names.edges lt

@@ -3,14 +3,10 @@ use Rattle.std.specs.Prelude.{◌≡◌, ◌<◌, ◌≤◌, ◌++◌, ◌^◌, 
 use Rattle.net_base.specs.declared.plan.Plan.{Plan}
 use Rattle.net_base.specs.declared.trace.event.Event.{Event}
 use Rattle.net_base.specs.declared.trace.event.Event.TheVariants.{Connect, Deliver, Lose, Restart, Tick, Frame, Arrive, Discard, Again, Wire, Circuit, Status, Priority, Ping}
-use Rattle.net_base.specs.plan.Accepted.{NonePair}
-use Rattle.net_base.specs.plan.NameFaults.{edge_names, circuit_names, wire_names}
 use Rattle.net_base.specs.plan.Planned.{IsEventOf}
-use Rattle.net_values.specs.Name.{IsName}
 use Rattle.std.specs.List.{All}
-use Rattle.std.specs.Str.{bytes_eq}
 use Rattle.report_text.specs.Words.{event_words}
-use Rattle.plan_names.specs.Planned.{names_of}
+use Rattle.plan_names.specs.Planned.{HasNames, names_of}
 use Rattle.command_text.specs.Events.{command_in}
 use Rattle.command_text.specs.declared.command.Command.TheVariants.{One}
 
@@ -19,17 +15,6 @@ abbrev pub joined_words : List (List ℕ) → List ℕ
 joined_words [] = []
 joined_words (word ∷ []) = word
 joined_words (word ∷ next ∷ words) = word ++ (codes " " ++ joined_words (next ∷ words))
-
--- names, of which each stands once
-pub record AreNames (names : List (List ℕ)) : Type 0 where
-  pub each : All IsName names
-  pub once : NonePair bytes_eq names
-
--- the names of the plan's rows
-pub record HasNames (plan : Plan) : Type 0 where
-  pub edges : AreNames (edge_names plan.edges)
-  pub circuits : AreNames (circuit_names plan.circuits)
-  pub wires : AreNames (wire_names plan.wires)
 
 -- the number of a packet
 abbrev pub IsPacket : ℕ → Type 0

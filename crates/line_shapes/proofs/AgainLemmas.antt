@@ -15,7 +15,8 @@ use Rattle.plan_names.specs.Decimal.{decimal_from, is_decimal, is_digit_of, valu
 use Rattle.report_text.specs.Choices.{choice_word, choice_words}
 use Rattle.report_text.specs.declared.choice.Choice.{Choice}
 use Rattle.report_text.specs.Words.{name_or_empty, wire_name}
-use Rattle.event_laws.proofs.ValueLemmas.{numerals, row_name}
+use Rattle.plan_names.proofs.DecimalLemmas.{numerals}
+use Rattle.line_shapes.proofs.NameLemmas.{row_name}
 use Rattle.line_shapes.specs.Laws.{AreKinds, IsKind, WrittenAsRead}
 use Rattle.line_shapes.specs.Shapes.{◌>>=◌, Form, between_two, form_at, word_found, has_two_edges, has_word, line_said, row_of_word, value_in, value_word, value_words, values_said}
 use Rattle.line_shapes.specs.declared.kind.Kind.{Kind}

@@ -5,12 +5,14 @@ use Rattle.std.specs.Str.{bytes_eq}
 use Rattle.std.proofs.lemmas.Bool.{eqb-true, lt-ltb}
 use Rattle.net_base.specs.declared.plan.Plan.{Plan}
 use Rattle.net_values.proofs.RowLemmas.{same_octets}
-use Rattle.event_laws.specs.Law.{HasNames}
+use Rattle.plan_names.specs.Planned.{HasNames}
 use Rattle.plan_names.specs.Names.{place_in}
 use Rattle.report_text.specs.Choices.{choice_word, choice_words}
 use Rattle.report_text.specs.declared.choice.Choice.{Choice}
 use Rattle.report_text.specs.declared.choice.Choice.TheVariants.{Switch, Cause, End, State}
-use Rattle.event_laws.proofs.ValueLemmas.{all_below, below_at, number_said, row_said}
+use Rattle.plan_names.proofs.BelowLemmas.{all_below, below_at}
+use Rattle.plan_names.proofs.DecimalLemmas.{number_said}
+use Rattle.line_shapes.proofs.NameLemmas.{row_said}
 use Rattle.line_shapes.specs.Laws.{IsKind, AreKinds, HaveWords, ReadWhatIsWritten}
 use Rattle.line_shapes.specs.Shapes.{Form, AreValuesOf, IsFit, between_two, form_at, has_word, line_said, row_of_word, value_in, value_word, value_words, values_said}
 use Rattle.line_shapes.specs.declared.kind.Kind.{Kind}

@@ -1,6 +1,7 @@
 pub mod AgainLemmas
 pub mod FitLemmas
 pub mod LawLemmas
+pub mod NameLemmas
 pub mod RowLemmas
 pub mod StopLemmas
 pub mod TableLemmas

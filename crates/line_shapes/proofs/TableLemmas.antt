@@ -6,7 +6,7 @@ use Rattle.std.proofs.lemmas.List.Quantifiers.{position-Some}
 use Rattle.std.specs.List.{list_all}
 use Rattle.std.specs.Str.{bytes_eq}
 use Rattle.net_base.specs.declared.plan.Plan.{Plan}
-use Rattle.event_laws.specs.Law.{HasNames}
+use Rattle.plan_names.specs.Planned.{HasNames}
 use Rattle.line_shapes.proofs.AgainLemmas.{again}
 use Rattle.line_shapes.proofs.FitLemmas.{line_fit}
 use Rattle.line_shapes.proofs.LawLemmas.{reads}

@@ -17,9 +17,8 @@ use Rattle.command_text.specs.declared.scenario_fault.ScenarioFault.{ScenarioFau
 use Rattle.command_text.specs.declared.scenario_fault.ScenarioFault.TheVariants.{TooMany, NotToml}
 use Rattle.command_text.specs.Events.{commands_in, event_in, plays_after, most_events}
 use Rattle.command_text.specs.Places.{top_row}
-use Rattle.plan_names.specs.Planned.{names_of}
+use Rattle.plan_names.specs.Planned.{HasNames, names_of}
 use Rattle.command_text.specs.Reading.{checked}
-use Rattle.event_laws.specs.Law.{HasNames}
 use Rattle.scenario_text.specs.declared.circuit_row.CircuitRow.{CircuitRow}
 use Rattle.scenario_text.specs.declared.group_row.GroupRow.{GroupRow}
 use Rattle.scenario_text.specs.declared.scenario.Scenario.{Scenario}

@@ -7,15 +7,17 @@ use Rattle.net_base.specs.plan.NameFaults.{circuit_names}
 use Rattle.report_text.specs.Words.{circuit_name}
 use Rattle.command_text.specs.declared.command.Command.{Command}
 use Rattle.command_text.specs.declared.command.Command.TheVariants.{One, Settle, Flow, Ticks, Play}
-use Rattle.plan_names.specs.Planned.{names_of}
+use Rattle.plan_names.specs.Planned.{HasNames, names_of}
 use Rattle.command_text.specs.Planned.{IsCount}
 use Rattle.command_text.specs.Events.{repeats_in, play_in, many_of, part_command, packet_command, command_of, command_in, commands_in, plays_after}
 use Rattle.plan_names.specs.Names.{place_in}
 use Rattle.plan_names.specs.Decimal.{decimal_from}
 use Rattle.command_text.specs.Words.{some_word}
-use Rattle.event_laws.specs.Law.{joined_words, HasNames}
+use Rattle.event_laws.specs.Law.{joined_words}
 use Rattle.event_laws.proofs.WordLemmas.{IsWhole, AreWhole, word_is, said_is, ends_is}
-use Rattle.event_laws.proofs.ValueLemmas.{decimal_whole, number_said, row_said, row_whole}
+use Rattle.plan_names.proofs.DecimalLemmas.{number_said}
+use Rattle.line_shapes.proofs.NameLemmas.{row_said}
+use Rattle.event_laws.proofs.ValueLemmas.{decimal_whole, row_whole}
 use Rattle.event_laws.proofs.EventLemmas.{reads, by_word, literal}
 use Rattle.migration.specs.Commands.{command_text, event_items}
 use Rattle.migration.specs.CommandLaw.{HasNoBlank, IsSaidCommand, AreSaidCommands, ReadsMigratedCommands}

@@ -18,7 +18,7 @@ use Rattle.report_text.specs.Words.{name_or_empty}
 use Rattle.migration.proofs.GroupNameLemmas.{group_apart}
 use Rattle.migration.proofs.OfferLemmas.{use_of}
 use Rattle.migration.proofs.RowLemmas.{group_of}
-use Rattle.event_laws.proofs.ValueLemmas.{row_name}
+use Rattle.line_shapes.proofs.NameLemmas.{row_name}
 
 first_at : (names : List (List ℕ)) (i : ℕ) → i < length names → ((j : ℕ) → j < i → bytes_eq (get_or names i []) (get_or names j []) ≡ false)
     → position_or_len (bytes_eq (get_or names i [])) names ≡ i

@@ -17,7 +17,8 @@ use Rattle.net_base.specs.declared.trace.event.Event.{Event}
 use Rattle.net_base.specs.declared.trace.event.Event.TheVariants.{Connect, Deliver, Lose, Restart, Tick, Frame, Arrive, Discard, Again, Wire, Circuit, Status, Priority, Ping}
 use Rattle.net_base.specs.plan.Planned.{IsEventOf}
 use Rattle.report_text.specs.Words.{circuit_name, edge_name, event_words, name_or_empty, switch_name, wire_name}
-use Rattle.event_laws.specs.Law.{joined_words, HasNames, IsEventInRange}
+use Rattle.plan_names.specs.Planned.{HasNames}
+use Rattle.event_laws.specs.Law.{joined_words, IsEventInRange}
 use Rattle.text_lines.specs.declared.line_word.LineWord.{LineWord}
 use Rattle.text_lines.specs.Lines.{word_octets}
 use Rattle.text_pieces.specs.Pieces.{hex, spaced}

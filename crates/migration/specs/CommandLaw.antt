@@ -7,10 +7,10 @@ use Rattle.net_base.specs.plan.Planned.{IsEventOf}
 use Rattle.command_text.specs.declared.command.Command.{Command}
 use Rattle.command_text.specs.declared.command.Command.TheVariants.{One, Settle, Flow, Ticks, Play}
 use Rattle.command_text.specs.Events.{commands_in, plays_after}
-use Rattle.plan_names.specs.Planned.{names_of}
+use Rattle.plan_names.specs.Planned.{HasNames, names_of}
 use Rattle.command_text.specs.Planned.{IsCount}
 use Rattle.command_text.specs.Words.{is_space}
-use Rattle.event_laws.specs.Law.{HasNames, IsEventInRange}
+use Rattle.event_laws.specs.Law.{IsEventInRange}
 use Rattle.migration.specs.Commands.{event_items}
 
 -- no blank is in the word

@@ -7,7 +7,8 @@ use Rattle.net_base.specs.declared.plan.wire_plan.WirePlan.{WirePlan}
 use Rattle.net_base.specs.plan.Planned.{IsEventOf}
 use Rattle.command_text.specs.declared.command.Command.{Command}
 use Rattle.command_text.specs.declared.command.Command.TheVariants.{One, Settle, Flow, Ticks, Play}
-use Rattle.event_laws.specs.Law.{HasNames, IsEventInRange}
+use Rattle.plan_names.specs.Planned.{HasNames}
+use Rattle.event_laws.specs.Law.{IsEventInRange}
 
 -- the descriptions of both ends of a wire are text
 pub record HasTexts (wire : WirePlan) : Type 0 where

@@ -1,7 +1,8 @@
 //! The texts of commands.
 ghost use Rattle.std.specs.{Prelude.{◌≡◌, ◌∷◌, ◌++◌, [], map, string_bytes, IfOk, OnOk}, List.{All}, Str.{IsUtf8}};
 ghost use Rattle.toml.specs.View.{view};
-ghost use Rattle.event_laws.specs.Law.{joined_words, HasNames};
+ghost use Rattle.plan_names.specs.Planned.{HasNames};
+ghost use Rattle.event_laws.specs.Law.{joined_words};
 ghost use Rattle.text_lines.specs.Lines.{word_octets};
 ghost use Rattle.text_pieces.specs.Pieces.{spaced};
 ghost use Rattle.migration.specs.{Commands.{command_text, event_items}, Sayable.{IsSayable}};

@@ -4,7 +4,7 @@ ghost use Rattle.toml.specs.{Parse.{parse_document}, Text.{IsDocumentText}, View
 ghost use Rattle.migration.specs.{Groups.{used_groups}, Migrated.{plan_table, migrated}, Tables.{put_some}};
 ghost use Rattle.migration.specs.Rows.{edge_table, service_table, group_table, circuit_table, wire_table};
 ghost use Rattle.migration.specs.Sayable.{HasTexts, IsSayable, IsSayableScenario};
-ghost use Rattle.event_laws.specs.Law.{HasNames};
+ghost use Rattle.plan_names.specs.Planned.{HasNames};
 
 use crate::commands::command_lines;
 use crate::groups::groups_of;

@@ -1,6 +1,6 @@
 -- Names by their places.
 use Rattle.std.proofs.Common.{◌≡◌, ◌<◌, ◌≤◌, ◌∙◌, ◌+◌, ◌==◌, ◌||◌, not, cond, ℕ, zero, suc, Bool, true, false, List, [], ◌∷◌, length, take, drop, get_or, Option, Some, None, IfSome, position, nat_lt, refl, sym, ap, arith, zero-add}
-use Rattle.std.proofs.lemmas.Bool.{false_from_ne_true, not-true, ltb-true, not-false}
+use Rattle.std.proofs.lemmas.Bool.{false_from_ne_true, lt-ltb, not-true, ltb-true, not-false}
 use Rattle.std.proofs.lemmas.List.{drop_more, get_or-take, get_or_default, length-take-le}
 use Rattle.std.proofs.lemmas.List.Folds.{list_any_none, list_any_at}
 use Rattle.std.proofs.lemmas.List.Quantifiers.{position-Some}
@@ -11,9 +11,11 @@ use Rattle.std.specs.Map.{lookup}
 use Rattle.std.specs.Str.{bytes_eq}
 use Rattle.std.specs.Cmp.Lexicographic.{nat_list_eq_equiv}
 use Rattle.net_values.proofs.OptionLemmas.{within_of, placed}
+use Rattle.net_values.proofs.RowLemmas.{same_octets, octets_apart_back}
 use Rattle.net_base.specs.plan.Faults.{clash_after}
 use Rattle.net_base.proofs.ClashLemmas.{clash_found, clash_passed}
 use Rattle.plan_names.specs.Names.{place_in, FindsNames}
+use Rattle.plan_names.specs.Planned.{AreNames}
 use denote.Ref.{Bor}
 
 -- the first place that passes, of places from i on
@@ -111,3 +113,17 @@ pub found_at : (names : List (List ℕ)) (at : ℕ) → at < length names → no
     → clash_after bytes_eq (take at names) at (drop at names) ≡ Some at
 found_at names at within e =
     clash_found bytes_eq [] names at (get_or names at []) (get_or_default names at [] (get_or names at []) within) within (not-false _ e)
+
+-- ---- each of names that differ is found at its place
+
+first_at : (names : List (List ℕ)) (i : ℕ) → i < length names → ((j : ℕ) → j < i → bytes_eq (get_or names i []) (get_or names j []) ≡ false)
+    → position_or_len (bytes_eq (get_or names i [])) names ≡ i
+first_at [] i lt apart = absurd (omega arith)
+first_at (name ∷ names) zero lt apart = rw (same_octets name) refl
+first_at (name ∷ names) (suc i) lt apart =
+    rw (apart 0 (omega arith), first_at names i (omega arith) (λ j under. apart (suc j) (omega arith))) (omega arith)
+
+pub place_found : (names : List (List ℕ)) (i : ℕ) → AreNames names → i < length names → place_in names (get_or names i []) ≡ Some i
+place_found names i are lt =
+    let first : position_or_len (bytes_eq (get_or names i [])) names ≡ i = first_at names i lt (λ j under. octets_apart_back (get_or names j []) (get_or names i []) (are.once j i [] under lt)) in
+    rw (first, lt-ltb i (length names) lt) refl

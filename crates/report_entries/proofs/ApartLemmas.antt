@@ -13,8 +13,8 @@ use Rattle.net_values.specs.Name.{IsName}
 use Rattle.net_values.proofs.BoolLemmas.{clash}
 use Rattle.net_values.proofs.RowLemmas.{octets_unlike}
 use Rattle.report_text.specs.Words.{circuit_name, wire_name}
-use Rattle.event_laws.specs.Law.{HasNames}
-use Rattle.event_laws.proofs.ValueLemmas.{row_name}
+use Rattle.plan_names.specs.Planned.{HasNames}
+use Rattle.line_shapes.proofs.NameLemmas.{row_name}
 use Rattle.report_text.specs.Named.{HasNamesApart, IsCircuit, IsWire}
 
 -- of two lists one behind the other

@@ -22,14 +22,16 @@ use Rattle.net_base.specs.declared.trace.event.Event.{Event}
 use Rattle.net_base.specs.declared.trace.event.Event.TheVariants as event
 use Rattle.net_base.specs.plan.Accepted.{IsChecked}
 use Rattle.plan_names.specs.Names.{place_in}
-use Rattle.plan_names.specs.Planned.{names_of}
+use Rattle.plan_names.specs.Planned.{HasNames, names_of}
 use Rattle.text_pieces.specs.Pieces.{hex}
 use Rattle.text_lines.specs.Lines.{line_of}
 use Rattle.read_lines.specs.Plain.{HasWords}
 use Rattle.report_text.specs.Report.{entry_line, entry_words}
 use Rattle.report_text.specs.Words.{arrival_name, circuit_name, edge_name, event_words, name_or_empty, wire_name}
-use Rattle.event_laws.specs.Law.{HasNames}
-use Rattle.event_laws.proofs.ValueLemmas.{all_below, below_at, number_said, octets_read, row_said}
+use Rattle.plan_names.proofs.BelowLemmas.{all_below, below_at}
+use Rattle.plan_names.proofs.DecimalLemmas.{number_said}
+use Rattle.line_shapes.proofs.NameLemmas.{row_said}
+use Rattle.event_laws.proofs.ValueLemmas.{octets_read}
 use Rattle.line_shapes.specs.Laws.{have_kinds, have_words}
 use Rattle.line_shapes.specs.Shapes.{form_at, row_words}
 use Rattle.line_shapes.proofs.TableLemmas.{IsRow, row_read}

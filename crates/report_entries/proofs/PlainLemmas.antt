@@ -29,7 +29,7 @@ use Rattle.report_text.specs.declared.last_line.Counted.TheVariants as counted
 use Rattle.report_text.specs.Report.{entry_words, is_counted, last_words}
 use Rattle.report_text.specs.Read.{IsEnding}
 use Rattle.report_text.specs.Words.{arrival_name, circuit_name, edge_name, event_words, name_or_empty, wire_name}
-use Rattle.event_laws.specs.Law.{AreNames, HasNames}
+use Rattle.plan_names.specs.Planned.{AreNames, HasNames}
 use Rattle.line_shapes.specs.Laws.{AreKinds, IsKind, have_kinds}
 use Rattle.line_shapes.specs.Shapes.{AreValuesOf, Form, IsFit, first_value, form_at, value_word, value_words, values_behind}
 use Rattle.line_shapes.specs.declared.kind.Kind.{Kind}
@@ -38,7 +38,9 @@ use Rattle.line_shapes.proofs.TableLemmas.{IsRow, are_kinds}
 use Rattle.report_entries.specs.Entries.{entry_forms, entry_made}
 use Rattle.report_entries.specs.Events.{event_forms, event_made}
 use Rattle.report_entries.proofs.RowLemmas.{aged_told, copied_told, down_told, dropped_told, event_row, idle_told, pong_told, session_told}
-use Rattle.event_laws.proofs.ValueLemmas.{all_below, below_at, row_name, numerals}
+use Rattle.plan_names.proofs.BelowLemmas.{all_below, below_at}
+use Rattle.plan_names.proofs.DecimalLemmas.{numerals}
+use Rattle.line_shapes.proofs.NameLemmas.{row_name}
 use Rattle.report_text.specs.Choices.{choice_word, choice_words}
 use Rattle.report_text.specs.declared.choice.Choice.{Choice}
 use Rattle.report_text.specs.declared.choice.Choice.TheVariants as choice

@@ -7,7 +7,7 @@ use Rattle.net_base.specs.declared.trace.entry.Entry.TheVariants as entry
 use Rattle.net_base.specs.plan.Accepted.{IsChecked}
 use Rattle.text_lines.specs.Lines.{line_of}
 use Rattle.report_text.specs.Report.{entry_line, entry_lines, entry_words}
-use Rattle.event_laws.specs.Law.{HasNames}
+use Rattle.plan_names.specs.Planned.{HasNames}
 use Rattle.report_text.specs.Named.{HasNamesApart, IsEntryNamed}
 use Rattle.report_entries.proofs.ApartLemmas.{names_apart}
 use Rattle.report_entries.proofs.PlainLemmas.{entry_plain}

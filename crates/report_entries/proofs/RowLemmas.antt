@@ -16,7 +16,7 @@ use Rattle.net_base.specs.declared.trace.event.Event.TheVariants as event
 use Rattle.net_base.specs.declared.trace.state_name.Reason.TheVariants as reason
 use Rattle.net_base.specs.declared.trace.state_name.StateName.{StateName}
 use Rattle.net_base.specs.declared.trace.state_name.StateName.TheVariants as state
-use Rattle.event_laws.proofs.ValueLemmas.{all_below, below_at}
+use Rattle.plan_names.proofs.BelowLemmas.{all_below, below_at}
 use Rattle.report_text.specs.Choices.{cause_at, cause_place, choice_word, choice_words, end_at, end_place, state_at, state_place, switch_place}
 use Rattle.report_text.specs.declared.choice.Choice.{Choice}
 use Rattle.report_text.specs.declared.choice.Choice.TheVariants as choice

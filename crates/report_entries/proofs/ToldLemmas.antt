@@ -13,8 +13,8 @@ use Rattle.report_text.specs.declared.ending.Ending.{Ending}
 use Rattle.report_text.specs.declared.ending.Ending.TheVariants.{End, Crowded, TooMuch}
 use Rattle.report_text.specs.declared.last_line.Counted.TheVariants as kind
 use Rattle.report_text.specs.Report.{counts_words, entry_lines, is_counted, last_line, last_words, report, told_words}
-use Rattle.event_laws.specs.Law.{HasNames}
-use Rattle.event_laws.proofs.ValueLemmas.{number_said}
+use Rattle.plan_names.specs.Planned.{HasNames}
+use Rattle.plan_names.proofs.DecimalLemmas.{number_said}
 use Rattle.read_lines.specs.Plain.{HasWords}
 use Rattle.report_text.specs.Named.{IsToldNumber}
 use Rattle.report_text.specs.Read.{IsEnding, ReadReport}

@@ -4,7 +4,7 @@ use Rattle.std.specs.List.{AllByRecursion}
 use Rattle.net_base.specs.declared.plan.Plan.{Plan}
 use Rattle.net_base.specs.declared.trace.entry.Entry.{Entry}
 use Rattle.net_base.specs.plan.Accepted.{IsChecked}
-use Rattle.event_laws.specs.Law.{HasNames}
+use Rattle.plan_names.specs.Planned.{HasNames}
 use Rattle.report_text.specs.Named.{IsEntryNamed}
 use Rattle.report_text.specs.Read.{ReadReport}
 use Rattle.report_text.specs.Report.{entry_line, entry_lines}
