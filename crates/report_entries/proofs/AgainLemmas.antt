@@ -25,12 +25,14 @@ use Rattle.report_entries.specs.declared.unread.Unread.{Unread}
 use Rattle.octet_text.specs.Cut.{before_mark, behind_mark}
 use Rattle.report_entries.specs.Cut.{line_words, words_within}
 use Rattle.report_entries.specs.Entries.{carried_in, did_in, entered_in, entry_forms, entry_made, exact, left_in, line_entry, passed_in, row_entry, said_in, sent_in, told_entry_in, told_entry_of, words_entry}
-use Rattle.report_entries.specs.Events.{event_forms, event_made, event_told, frame_told, of_record_size, row_event}
+use Rattle.event_rows.specs.Rows.{event_forms, event_made}
+use Rattle.report_entries.specs.Events.{event_told, frame_told, of_record_size, row_event}
 use Rattle.report_entries.specs.Reading.{◌>>=◌, Reads, arrival_in, circuit_of_word, digits_told, edge_of_word, number_in, wire_of_word}
 use Rattle.line_shapes.specs.Laws.{have_kinds}
 use Rattle.line_shapes.proofs.AgainLemmas.{decimal_again, row_again}
 use Rattle.line_shapes.proofs.TableLemmas.{below_all, rows_hold}
-use Rattle.report_entries.proofs.RowLemmas.{EntryRow, EventRow, entry_rows, event_rows}
+use Rattle.event_rows.proofs.RowLemmas.{EventRow, event_rows}
+use Rattle.report_entries.proofs.RowLemmas.{EntryRow, entry_rows}
 use Rattle.report_entries.proofs.DigitLemmas.{octets_again}
 use Rattle.report_entries.proofs.FoundLemmas.{few_words}
 use Rattle.report_entries.proofs.NamedLemmas.{by_word, mapped, then, weaker}

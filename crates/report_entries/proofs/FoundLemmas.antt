@@ -40,10 +40,12 @@ use Rattle.report_entries.proofs.ApartLemmas.{names_apart}
 use Rattle.report_entries.proofs.PlainLemmas.{entry_plain}
 use Rattle.report_entries.specs.Cut.{line_words, words_within}
 use Rattle.report_entries.specs.Entries.{carried_in, entered_in, entry_forms, entry_made, left_in, line_entry, passed_in, row_entry, said_in, sent_in, told_entry_in, told_entry_of, words_entry}
-use Rattle.report_entries.specs.Events.{event_forms, event_made, event_told, frame_told, row_event}
+use Rattle.event_rows.specs.Rows.{event_forms, event_made}
+use Rattle.report_entries.specs.Events.{event_told, frame_told, row_event}
 use Rattle.report_entries.proofs.CutLemmas.{joined_free, line_is, words_found}
 use Rattle.report_entries.proofs.DigitLemmas.{digits_small}
-use Rattle.report_entries.proofs.RowLemmas.{aged_told, copied_told, down_told, dropped_told, event_row, idle_told, pong_told, session_told}
+use Rattle.event_rows.proofs.RowLemmas.{event_row}
+use Rattle.report_entries.proofs.RowLemmas.{aged_told, copied_told, down_told, dropped_told, idle_told, pong_told, session_told}
 use Rattle.report_entries.specs.Laws.{IsFreeOf}
 use Rattle.report_entries.specs.Reading.{arrival_in, circuit_of_word, digits_told, edge_of_word, number_in, wire_of_word}
 

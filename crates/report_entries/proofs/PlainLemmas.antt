@@ -36,8 +36,9 @@ use Rattle.line_shapes.specs.declared.kind.Kind.{Kind}
 use Rattle.line_shapes.specs.declared.kind.Kind.TheVariants as kind
 use Rattle.line_shapes.proofs.TableLemmas.{IsRow, are_kinds}
 use Rattle.report_entries.specs.Entries.{entry_forms, entry_made}
-use Rattle.report_entries.specs.Events.{event_forms, event_made}
-use Rattle.report_entries.proofs.RowLemmas.{aged_told, copied_told, down_told, dropped_told, event_row, idle_told, pong_told, session_told}
+use Rattle.event_rows.specs.Rows.{event_forms, event_made}
+use Rattle.event_rows.proofs.RowLemmas.{event_row}
+use Rattle.report_entries.proofs.RowLemmas.{aged_told, copied_told, down_told, dropped_told, idle_told, pong_told, session_told}
 use Rattle.plan_names.proofs.BelowLemmas.{all_below, below_at}
 use Rattle.plan_names.proofs.DecimalLemmas.{numerals}
 use Rattle.line_shapes.proofs.NameLemmas.{row_name}
