@@ -25,11 +25,9 @@ has_kept places f other within absent = elim (cases_eq (place_of_field other) (p
     has_at : ℕ → Bool
     has_at n = get_or (set places (place_of_field f) true) n false
 
-pub may_come : (row : Row) (tlv : ℕ) (f : Field) (places : List Bool) (ts : List Tlv) → listed row tlv ≡ Some f → has places f ≡ false → HoldsListed row places ts
-    → MayComeAgain (listed row tlv) (count_of tlv ts)
-may_come row tlv f places ts is_listed absent holds =
-    let none : count_of tlv ts ≡ 0 = holds tlv f is_listed absent in
-    subst (λ (o : Option Field). MayComeAgain o (count_of tlv ts)) (sym is_listed) (subst (λ (n : ℕ). n < most f) (sym none) (least_most f))
+pub may_come : (list : Option Field) (f : Field) (count : ℕ) → list ≡ Some f → count ≡ 0 → MayComeAgain list count
+may_come list f count is none =
+    subst (λ (o : Option Field). MayComeAgain o count) (sym is) (subst (λ (n : ℕ). n < most f) (sym none) (least_most f))
 
 -- none came yet
 pub holds_none : (row : Row) (places : List Bool) (ts : List Tlv) → IsJoined [] ts → HoldsListed row places ts

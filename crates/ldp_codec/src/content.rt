@@ -1,12 +1,12 @@
 //! What the values of TLVs hold, and the first fault of it.
 ghost use Rattle.std.specs.Prelude.{◌≡◌, ◌≤◌, ◌<◌, ◌+◌, ◌^◌, None, true, false, length, Ok, Err, IfSome};
 ghost use Rattle.pw_tlvs.specs.Faults.{IsFirstIn, IsInside, fault_place};
-ghost use Rattle.ldp_grammar.specs.{FirstFault.{ContentFault, fault_in}, Layouts.{fits, listed}, Rows.{row_of}, Tlvs.{HasContent}};
+ghost use Rattle.ldp_grammar.specs.{FirstFault.{ContentFault, fault_in}, Layouts.{fits}, Tlvs.{HasContent}};
 ghost use Rattle.ldp_codec.specs.Walk.{HasContents, HasLength, IsFirstContent, ReadsForeign};
 
 use crate::numbers::four;
 use crate::tlv_search::find_value;
-use ldp_grammar::{Cause, FEC, Fault, MessageKind, TLV_HEADER};
+use ldp_grammar::{Cause, FEC, Fault, TLV_HEADER};
 use net_values::{Field, Label};
 use pw_tlvs::{FecValue, FieldFault, fec_fault, read_fec, read_point};
 
@@ -87,15 +87,15 @@ fn placed(field: Field, fault: FieldFault) -> Fault
     }
 }
 
-/// The first fault of the value of a TLV of this type, where the message with these octets lists it; its Length fits.
-pub fn wrong_content(kind: MessageKind, body: &[u8], tlv: u16, value: &[u8]) -> Option<Fault>
+/// The first fault of the value of a TLV of this field, where the message with these octets lists it; its Length fits.
+pub fn wrong_content(list: Option<Field>, body: &[u8], value: &[u8]) -> Option<Fault>
     requires few { 4 + length value.now < 65536 }
-    requires fitting { HasLength (listed (row_of kind) tlv) value.now }
-    ensures fault { IfSome result (IsFirstContent body.now (listed (row_of kind) tlv) value.now) }
-    ensures none { result ≡ None → HasContents body.now (listed (row_of kind) tlv) value.now }
+    requires fitting { HasLength list value.now }
+    ensures fault { IfSome result (IsFirstContent body.now list value.now) }
+    ensures none { result ≡ None → HasContents body.now list value.now }
     ensures near { IfSome result (λ fault. fault.place < 4 + length value.now) }
 {
-    let field = kind.listed(tlv)?;
+    let field = list?;
     let fault = content_fault(body, field, value)?;
     Some(placed(field, fault))
 }

@@ -1,9 +1,9 @@
 //! The walk over the TLVs of a message.
 ghost use Rattle.std.specs.Prelude.{◌≡◌, ◌≤◌, ◌<◌, ◌+◌, List, Some, None, false, length, IfOk, IfErr, IfSome};
-ghost use Rattle.net_values.specs.declared.field.Field.{Field};
+ghost use Rattle.net_values.specs.declared.field.Field.{Field as FieldOf};
 ghost use Rattle.ldp_grammar.specs.{Layouts.{fits, listed, most}, FirstFault.{IsFirst, IsFirstTlvFault, NamesTlvs}, Rows.{row_of}};
 ghost use Rattle.ldp_grammar.specs.Tlvs.{Tlv, IsJoined, MayComeAgain, count_of, type_in, unknown_in};
-ghost use Rattle.ldp_codec.specs.{FieldSet.{HoldsListed, IsPutIn}, Walk.{HasLength, IsTaken, IsWalked}};
+ghost use Rattle.ldp_codec.specs.{FieldSet.{HoldsListed, IsPutIn, has}, Walk.{HasLength, IsTaken, IsWalked}};
 
 use crate::content::wrong_content;
 use crate::field_set::FieldSet;
@@ -13,14 +13,14 @@ use crate::tlv_search::count_tlvs;
 use ldp_grammar::{Cause, Fault, MessageKind, TLV_HEADER, TlvPart, U_BIT, is_fitting, most_of};
 use net_values::Field;
 
-// The TLV of this type, where the message lists it and has as many before as it may. Only where the set has its field are those
-// before counted.
-fn repeated(kind: MessageKind, tlv: u16, before: &[u8], met: FieldSet) -> Option<Field>
-    requires met { (ts : List Tlv) → IsJoined before.now ts → HoldsListed (row_of kind) met ts }
-    ensures full { (ts : List Tlv) → IsJoined before.now ts → IfSome result (λ field. (listed (row_of kind) tlv ≡ Some field) × (most field ≤ count_of tlv ts)) }
-    ensures room { (ts : List Tlv) → IsJoined before.now ts → result ≡ None → MayComeAgain (listed (row_of kind) tlv) (count_of tlv ts) }
+// The field of a TLV of this type, where the message has as many before as it may. Only where the set has its field are those before
+// counted.
+fn repeated(list: Option<Field>, tlv: u16, before: &[u8], met: FieldSet) -> Option<Field>
+    requires met { (ts : List Tlv) (field : FieldOf) → IsJoined before.now ts → list ≡ Some field → has met field ≡ false → count_of tlv ts ≡ 0 }
+    ensures full { (ts : List Tlv) → IsJoined before.now ts → IfSome result (λ field. (list ≡ Some field) × (most field ≤ count_of tlv ts)) }
+    ensures room { (ts : List Tlv) → IsJoined before.now ts → result ≡ None → MayComeAgain list (count_of tlv ts) }
 {
-    let field = kind.listed(tlv)?;
+    let field = list?;
     if !met.contains(field) {
         return None;
     }
@@ -30,12 +30,12 @@ fn repeated(kind: MessageKind, tlv: u16, before: &[u8], met: FieldSet) -> Option
     Some(field)
 }
 
-// The TLV of this type, where the message lists it and its Length does not fit.
-fn misfit(kind: MessageKind, tlv: u16, value: &[u8]) -> Option<Field>
-    ensures misfit { IfSome result (λ field. (listed (row_of kind) tlv ≡ Some field) × (fits field value.now ≡ false)) }
-    ensures len { result ≡ None → HasLength (listed (row_of kind) tlv) value.now }
+// The field of a TLV, where its Length does not fit.
+fn misfit(list: Option<Field>, value: &[u8]) -> Option<Field>
+    ensures misfit { IfSome result (λ field. (list ≡ Some field) × (fits field value.now ≡ false)) }
+    ensures len { result ≡ None → HasLength list value.now }
 {
-    let field = kind.listed(tlv)?;
+    let field = list?;
     if is_fitting(field, value) {
         return None;
     }
@@ -52,31 +52,32 @@ pub fn unknown(kind: MessageKind, word: u16) -> Option<u16>
     }
 }
 
-// The set with the field of the TLV with this word, where the message lists it.
-fn put_in(kind: MessageKind, word: u16, met: FieldSet) -> FieldSet
-    ensures { IsPutIn (listed (row_of kind) (type_in word)) met result }
+// The set with a field, where there is one.
+fn put_in(list: Option<Field>, met: FieldSet) -> FieldSet
+    ensures { IsPutIn list met result }
 {
     let mut met = met;
-    if let Some(field) = kind.listed(word % TYPE_LIMIT) {
+    if let Some(field) = list {
         met.insert(field);
     }
     met
 }
 
-// The word and the size of the TLV in front, behind others of the message with these octets. A label is not looked at where
-// the first FEC is foreign.
-#[tactic(auto, using(crate::proofs::WalkLemmas::taken_here, crate::proofs::WalkLemmas::misfit_here, ldp_grammar::proofs::TlvLemmas::short_tlv, ldp_grammar::proofs::TlvLemmas::long_tlv, ldp_grammar::proofs::TlvLemmas::repeated_tlv))]
+// The word and the size of the TLV in front, behind others of the message with these octets, and its field where the message lists
+// it. A label is not looked at where the first FEC is foreign.
+#[tactic(auto, using(crate::proofs::WalkLemmas::taken_here, crate::proofs::WalkLemmas::misfit_here, crate::proofs::WalkLemmas::listed_in, ldp_grammar::proofs::TlvLemmas::short_tlv, ldp_grammar::proofs::TlvLemmas::long_tlv, ldp_grammar::proofs::TlvLemmas::repeated_tlv))]
 fn take_tlv(
     kind: MessageKind,
     body: &[u8],
     before: &[u8],
     rest: &[u8],
     met: FieldSet,
-) -> Result<(u16, usize), Fault>
+) -> Result<(u16, usize, Option<Field>), Fault>
     requires some { 0 < length rest.now }
     requires few { length rest.now < 65536 }
     requires met { (ts : List Tlv) → IsJoined before.now ts → HoldsListed (row_of kind) met ts }
     ensures taken { (ts : List Tlv) → IsJoined before.now ts → IfOk result (λ r. IsTaken (row_of kind) body.now ts rest.now r.0 r.1) }
+    ensures list { IfOk result (λ r. r.2 ≡ listed (row_of kind) (type_in r.0)) }
     ensures some { IfOk result (λ r. 0 < r.1) }
     ensures within { IfOk result (λ r. r.1 ≤ length rest.now) }
     ensures fault { (ts : List Tlv) → IsJoined before.now ts → IfErr result (IsFirstTlvFault (row_of kind) body.now ts rest.now) }
@@ -86,19 +87,20 @@ fn take_tlv(
         return Err(fault_at(0, Cause::TlvLength));
     }
     let tlv = two(rest, 0) % TYPE_LIMIT;
-    if let Some(field) = repeated(kind, tlv, before, met) {
+    let list = kind.listed(tlv);
+    if let Some(field) = repeated(list, tlv, before, met) {
         return Err(fault_at(0, Cause::Repeated(field)));
     }
     let Some((word, value, _)) = split_tlv(rest) else {
         return Err(fault_at(2, Cause::TlvLength));
     };
-    if let Some(field) = misfit(kind, tlv, value) {
+    if let Some(field) = misfit(list, value) {
         return Err(fault_at(2, Cause::TlvValue(field)));
     }
-    if let Some(fault) = wrong_content(kind, body, tlv, value) {
+    if let Some(fault) = wrong_content(list, body, value) {
         return Err(fault);
     }
-    Ok((word, TLV_HEADER + value.len()))
+    Ok((word, TLV_HEADER + value.len(), list))
 }
 
 // A fault at a place.
@@ -122,12 +124,12 @@ pub fn walk_tlvs(kind: MessageKind, body: &[u8]) -> Result<Option<u16>, Fault>
     let mut at = 0;
     'walking: while at < body.len() {
         let (before, rest) = body.split_at(at);
-        let (word, size) = match take_tlv(kind, body, before, rest, met) {
+        let (word, size, list) = match take_tlv(kind, body, before, rest, met) {
             Ok(taken) => taken,
             Err(fault) => return Err(fault.behind(at as u16)),
         };
         first = first.or(unknown(kind, word));
-        met = put_in(kind, word, met);
+        met = put_in(list, met);
         at += size;
     }
     Ok(first)
