@@ -51,11 +51,11 @@ holds_one row old new ts t holds put = λ tlv f is_listed absent.
           omega (arith, count-append tlv ts (t ∷ []), none, before)
     ]
 
-pub holds_more : (row : Row) (body : List ℕ) (at word size : ℕ) (unknown : Option ℕ) (old new : List Bool) → at ≤ length body → IsWalked row body (take at body) unknown
+pub holds_more : (row : Row) (body : List ℕ) (at word size : ℕ) (old new : List Bool) → at ≤ length body → IsWalked row body (take at body)
     → ((ts : List Tlv) → IsJoined (take at body) ts → IsTaken row body ts (drop at body) word size)
     → ((ts : List Tlv) → IsJoined (take at body) ts → HoldsListed row old ts) → IsPutIn (listed row (type_in word)) old new → (ts : List Tlv) → IsJoined (take (at + size) body) ts
     → HoldsListed row new ts
-holds_more row body at word size unknown old new within w takes holds put = λ ts joined.
+holds_more row body at word size old new within w takes holds put = λ ts joined.
     let t = takes w.tlvs w.joined in
     let tlv : Tlv = record { word = word; value = t.value } in
     let long : size ≡ length (spell_tlv tlv) = omega (arith, t.len) in

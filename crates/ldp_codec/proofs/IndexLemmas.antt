@@ -17,7 +17,14 @@ use Rattle.ldp_codec.specs.FieldSet.{place_of_field}
 use Rattle.ldp_codec.specs.TlvIndex.{AreFirst, AreKept, AreWhole, IsWhole, beginning, front_value, value_at}
 use Rattle.ldp_codec.specs.Walk.{IsSplit}
 use Rattle.ldp_codec.proofs.SearchLemmas.{behind}
-use Rattle.ldp_codec.proofs.WalkLemmas.{option_or-assoc, option_or-none}
+
+option_or-assoc : (a b c : Option ℕ) → option_or (option_or a b) c ≡ option_or a (option_or b c)
+option_or-assoc None b c = refl
+option_or-assoc (Some x) b c = refl
+
+option_or-none : (a : Option ℕ) → option_or a None ≡ a
+option_or-none None = refl
+option_or-none (Some x) = refl
 
 -- a TLV of the type is there exactly where there is a value of one
 pub lacks_some : (kind : ℕ) (value : List ℕ) (ts : List Tlv) → Some value ≡ value_of kind ts → false ≡ (count_of kind ts == 0)

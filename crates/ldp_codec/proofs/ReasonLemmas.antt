@@ -21,7 +21,8 @@ use Rattle.ldp_grammar.specs.Tlvs.{Tlv, IsJoined, IsFaultless, IsReason, IsForei
 use Rattle.ldp_grammar.specs.Spells.{IsRead, OfValue}
 use Rattle.ldp_grammar.proofs.TlvLemmas.{value_fits, none_of, needed_there, rows_have_fields, joined_once}
 use Rattle.ldp_grammar.proofs.ForeignLemmas.{no_reason, told_pw, not_foreign}
-use Rattle.ldp_codec.specs.Walk.{HasElement, IsComplete, IsWalked, element_in}
+use Rattle.ldp_codec.specs.Views.{AreSound}
+use Rattle.ldp_codec.specs.Walk.{HasElement, IsComplete, element_in}
 
 -- where TLVs may stand instead, and all of them do
 pub instead_is : (kinds : List ℕ) (ts : List Tlv) → stands_instead kinds ts ≡ (not (length kinds == 0) && all_there kinds ts)
@@ -101,13 +102,13 @@ has_element k body r w tells = λ ts joined.
     (element_is (fec_value (row_of k) w.tlvs) r (told_pw k (fec_value (row_of k) w.tlvs) w.reason.told r none.fec w.reason.is_told is) is)
 
 -- a message that is not processed
-pub unprocessed : (k : MessageKind) (body : List ℕ) (unknown : Option ℕ) (why : Option Why) (reason : Why) (w : IsWalked (row_of k) body body unknown) → IsReason k w.tlvs why → why
+pub unprocessed : (k : MessageKind) (body : List ℕ) (why : Option Why) (reason : Why) (w : AreSound (row_of k) body) → IsReason k w.tlvs why → why
     ≡ Some reason → (id : ℕ) → IsRead k id body (Unprocessed id (type_of k) reason)
-unprocessed k body unknown why reason w is e = λ id. record { tlvs = w.tlvs; joined = w.joined; faultless = w.faultless; why = Some reason; reason = subst (IsReason k w.tlvs) e is; tells = refl }
+unprocessed k body why reason w is e = λ id. record { tlvs = w.tlvs; joined = w.joined; faultless = w.faultless; why = Some reason; reason = subst (IsReason k w.tlvs) e is; tells = refl }
 
 -- a message that is processed
-pub complete : (k : MessageKind) (body : List ℕ) (unknown : Option ℕ) (why : Option Why) (w : IsWalked (row_of k) body body unknown) → IsReason k w.tlvs why → why ≡ None → IsComplete k body
-complete k body unknown why w is e = record { tlvs = w.tlvs; joined = w.joined; faultless = w.faultless; reason = subst (IsReason k w.tlvs) e is }
+pub complete : (k : MessageKind) (body : List ℕ) (why : Option Why) (w : AreSound (row_of k) body) → IsReason k w.tlvs why → why ≡ None → IsComplete k body
+complete k body why w is e = record { tlvs = w.tlvs; joined = w.joined; faultless = w.faultless; reason = subst (IsReason k w.tlvs) e is }
 
 -- what a message needs is there
 pub complete_of : (k : MessageKind) (body : List ℕ) (w : IsComplete k body) → (row_of k).instead ≡ [] → first_absent (row_of k).needed w.tlvs ≡ None

@@ -15,25 +15,20 @@ use Rattle.ldp_grammar.specs.FirstFault.{IsFirst, IsFirstMessageFault, NamesMess
 use Rattle.ldp_grammar.proofs.ItemLemmas.{items_more}
 use Rattle.ldp_grammar.proofs.MessageLemmas.{octets_of, spelled_more}
 use Rattle.ldp_grammar.proofs.TellingLemmas.{read_as}
-use Rattle.ldp_codec.specs.Walk.{IsMessageSplit, IsWalkedAs, AreMessages}
+use Rattle.ldp_codec.specs.Walk.{IsMessageSplit, AreMessages}
 use Rattle.ldp_codec.specs.Views.{IsSoundSpelling, IsSoundAs, IsMessagePassed, AreCounted}
 use Rattle.ldp_codec.proofs.PlaceLemmas.{placed}
 use Rattle.ldp_codec.proofs.WalkLemmas.{take_all}
 use Rattle.ldp_codec.proofs.MessageWalkLemmas.{messages_fault}
 
--- what was walked is without fault
-sound_as : (o : Option MessageKind) (body : List ℕ) (unknown : Option ℕ) → IsWalkedAs o body unknown → IsSoundAs o body
-sound_as None body unknown walked = tt
-sound_as (Some kind) body unknown walked = record { tlvs = walked.tlvs; joined = walked.joined; faultless = walked.faultless }
-
-pub passed_here : (rest body : List ℕ) (word id : ℕ) (o : Option MessageKind) (unknown : Option ℕ) → o ≡ kind_of (word % 2 ^ 15) → IsMessageSplit rest word id body
-    → IsWalkedAs o body unknown → IsMessagePassed rest (8 + length body)
-passed_here rest body word id o unknown known s walked = record {
+pub passed_here : (rest body : List ℕ) (word id : ℕ) (o : Option MessageKind) → o ≡ kind_of (word % 2 ^ 15) → IsMessageSplit rest word id body
+    → IsSoundAs o body → IsMessagePassed rest (8 + length body)
+passed_here rest body word id o known s sound = record {
   spelling = record { word = word; id = id; body = body };
   more = s.more;
   split = s.split;
   is_message = s.is_message;
-  sound = subst (λ (k : Option MessageKind). IsSoundAs k body) known (sound_as o body unknown walked);
+  sound = subst (λ (k : Option MessageKind). IsSoundAs k body) known sound;
   len = refl;
 }
 

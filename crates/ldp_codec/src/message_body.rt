@@ -7,7 +7,7 @@ ghost use Rattle.ldp_grammar.specs.Tlvs.{Tlv, IsFaultless, IsJoined, IsReason, H
 ghost use Rattle.ldp_grammar.specs.Spells.{IsRead, Means};
 ghost use Rattle.ldp_grammar.specs.declared.message.Message.TheVariants as message;
 ghost use Rattle.ldp_grammar.specs.Values.{IsAddressList, IsNumber};
-ghost use Rattle.ldp_codec.specs.Walk.{HasElement, IsComplete, IsWalked, element_in};
+ghost use Rattle.ldp_codec.specs.{Views.{AreSound}, Walk.{HasElement, IsComplete, element_in}};
 
 use crate::numbers::four;
 use crate::points::points;
@@ -117,7 +117,8 @@ pub fn processable(
     kind: MessageKind,
     body: &TlvIndex<'_>,
 ) -> Result<Option<PwFec>, Why>
-    requires walked { IsWalked (row_of kind) body.now body.now unknown }
+    requires sound { AreSound (row_of kind) body.now }
+    requires first { (ts : List Tlv) → IsJoined body.now ts → unknown ≡ first_unknown (row_of kind) ts }
     ensures complete { IfOk result (λ _. IsComplete kind body.now) }
     ensures element { IfOk result (HasElement kind body.now) }
     ensures unprocessed { IfErr result (λ why. (id : ℕ) → IsRead kind id body.now (message.Unprocessed id (type_of kind) why)) }

@@ -97,7 +97,6 @@ impl<'a> MessageView<'a> {
 }
 
 // The message that octets without fault stand for: of a known kind it is processed, or not for the first reason that holds.
-#[tactic(auto, using(crate::proofs::UnknownLemmas::walked_sound))]
 fn read_flat(alloc: Global, word: u16, number: u32, body: &[u8]) -> Result<Message, NoMemory>
     requires few { length body.now ≤ 4100 }
     requires sound { IsSoundSpelling (record { word = word; id = number; body = body.now }) }

@@ -1,15 +1,14 @@
 //! The TLVs of a message, each found once.
 ghost use Rattle.std.specs.Prelude.{◌≡◌, ◌≤◌, ◌<◌, ◌==◌, ℕ, List, IfSome, length, drop, option_copied};
 ghost use Rattle.net_values.specs.declared.field.Field.{Field};
-ghost use Rattle.ldp_grammar.specs.{Rows.{row_of}, Tlvs.{Tlv, IsJoined, count_of, first_unknown, value_of}};
+ghost use Rattle.ldp_grammar.specs.{Rows.{row_of}, Tlvs.{Tlv, IsJoined, count_of, first_unknown, unknown_in, value_of}};
 ghost use Rattle.ldp_codec.specs.{TlvIndex.{AreKept, AreWhole, IsWhole, beginning, front_value}, Views.{AreSound}};
 
 use crate::field_set::place_of;
 use crate::numbers::two;
 use crate::tlv::{TYPE_LIMIT, split_tlv};
 use crate::tlv_search::find_value;
-use crate::tlv_walk::unknown;
-use ldp_grammar::{MessageKind, TLV_HEADER, field_of_type};
+use ldp_grammar::{MessageKind, TLV_HEADER, TlvPart, U_BIT, field_of_type};
 use std::marker::Model;
 
 // The place of no TLV.
@@ -78,6 +77,16 @@ impl<'a> TlvIndex<'a> {
             Some(_) => false,
             None => true,
         }
+    }
+}
+
+// The type of the TLV with this word, where it is unknown in the message and not to be ignored.
+fn unknown(kind: MessageKind, word: u16) -> Option<u16>
+    ensures { result ≡ unknown_in (row_of kind) word }
+{
+    match kind.part(word % TYPE_LIMIT) {
+        TlvPart::Unknown if word < U_BIT => Some(word % TYPE_LIMIT),
+        _ => None,
     }
 }
 

@@ -1,16 +1,16 @@
 //! The walk over the TLVs of a message.
-ghost use Rattle.std.specs.Prelude.{◌≡◌, ◌≤◌, ◌<◌, ◌+◌, List, Some, None, false, length, IfOk, IfErr, IfSome};
+ghost use Rattle.std.specs.Prelude.{◌≡◌, ◌≤◌, ◌<◌, List, Some, None, false, length, IfOk, IfErr, IfSome};
 ghost use Rattle.net_values.specs.declared.field.Field.{Field as FieldOf};
 ghost use Rattle.ldp_grammar.specs.{Layouts.{fits, listed, most}, FirstFault.{IsFirst, IsFirstTlvFault, NamesTlvs}, Rows.{row_of}};
-ghost use Rattle.ldp_grammar.specs.Tlvs.{Tlv, IsJoined, MayComeAgain, count_of, type_in, unknown_in};
-ghost use Rattle.ldp_codec.specs.{FieldSet.{HoldsListed, IsPutIn, has}, Walk.{HasLength, IsTaken, IsWalked}};
+ghost use Rattle.ldp_grammar.specs.Tlvs.{Tlv, IsJoined, MayComeAgain, count_of, type_in};
+ghost use Rattle.ldp_codec.specs.{FieldSet.{HoldsListed, IsPutIn, has}, Views.{AreSound}, Walk.{HasLength, IsTaken}};
 
 use crate::content::wrong_content;
 use crate::field_set::FieldSet;
 use crate::numbers::two;
 use crate::tlv::{TYPE_LIMIT, split_tlv};
 use crate::tlv_search::count_tlvs;
-use ldp_grammar::{Cause, Fault, MessageKind, TLV_HEADER, TlvPart, U_BIT, is_fitting, most_of};
+use ldp_grammar::{Cause, Fault, MessageKind, TLV_HEADER, is_fitting, most_of};
 use net_values::Field;
 
 // The field of a TLV of this type, where the message has as many before as it may. Only where the set has its field are those before
@@ -40,16 +40,6 @@ fn misfit(list: Option<Field>, value: &[u8]) -> Option<Field>
         return None;
     }
     Some(field)
-}
-
-/// The type of the TLV with this word, where it is unknown in the message and not to be ignored.
-pub fn unknown(kind: MessageKind, word: u16) -> Option<u16>
-    ensures { result ≡ unknown_in (row_of kind) word }
-{
-    match kind.part(word % TYPE_LIMIT) {
-        TlvPart::Unknown if word < U_BIT => Some(word % TYPE_LIMIT),
-        _ => None,
-    }
 }
 
 // The set with a field, where there is one.
@@ -110,27 +100,25 @@ fn fault_at(place: u16, cause: Cause) -> Fault
     Fault { place, cause }
 }
 
-/// The type of the first TLV that is unknown in the message and not to be ignored, where the octets behind the Message
-/// ID are TLVs without fault; or else their first fault, its place counted from the first of them.
+/// Whether the octets behind the Message ID are TLVs without fault, or else their first fault, its place counted from the
+/// first of them.
 #[tactic(auto, using(crate::proofs::WalkLemmas::walked_more, crate::proofs::WalkLemmas::walk_fault, crate::proofs::WalkLemmas::walked_all, crate::proofs::WalkLemmas::walked_none, crate::proofs::FieldSetLemmas::holds_none, crate::proofs::FieldSetLemmas::holds_before))]
-pub fn walk_tlvs(kind: MessageKind, body: &[u8]) -> Result<Option<u16>, Fault>
+pub fn walk_tlvs(kind: MessageKind, body: &[u8]) -> Result<(), Fault>
     requires { length body.now < 65536 }
-    ensures walked { IfOk result (IsWalked (row_of kind) body.now body.now) }
+    ensures sound { IfOk result (λ _. AreSound (row_of kind) body.now) }
     ensures fault { IfErr result (IsFirst (NamesTlvs (row_of kind) body.now)) }
     ensures near { IfErr result (λ fault. fault.place < length body.now) }
 {
-    let mut first = None;
     let mut met = FieldSet::empty();
     let mut at = 0;
     'walking: while at < body.len() {
         let (before, rest) = body.split_at(at);
-        let (word, size, list) = match take_tlv(kind, body, before, rest, met) {
+        let (_, size, list) = match take_tlv(kind, body, before, rest, met) {
             Ok(taken) => taken,
             Err(fault) => return Err(fault.behind(at as u16)),
         };
-        first = first.or(unknown(kind, word));
         met = put_in(list, met);
         at += size;
     }
-    Ok(first)
+    Ok(())
 }
