@@ -15,8 +15,8 @@ use net_values::Field;
 
 // The field of a TLV of this type, where the message has as many before as it may. Only where the set has its field are those before
 // counted.
-fn repeated(list: Option<Field>, tlv: u16, before: &[u8], met: FieldSet) -> Option<Field>
-    requires met { (ts : List Tlv) (field : FieldOf) → IsJoined before.now ts → list ≡ Some field → has met field ≡ false → count_of tlv ts ≡ 0 }
+fn repeated(list: Option<Field>, tlv: u16, before: &[u8], met: &FieldSet) -> Option<Field>
+    requires met { (ts : List Tlv) (field : FieldOf) → IsJoined before.now ts → list ≡ Some field → has met.now field ≡ false → count_of tlv ts ≡ 0 }
     ensures full { (ts : List Tlv) → IsJoined before.now ts → IfSome result (λ field. (list ≡ Some field) × (most field ≤ count_of tlv ts)) }
     ensures room { (ts : List Tlv) → IsJoined before.now ts → result ≡ None → MayComeAgain list (count_of tlv ts) }
 {
@@ -42,15 +42,13 @@ fn misfit(list: Option<Field>, value: &[u8]) -> Option<Field>
     Some(field)
 }
 
-// The set with a field, where there is one.
-fn put_in(list: Option<Field>, met: FieldSet) -> FieldSet
-    ensures { IsPutIn list met result }
+// Puts a field into the set, where there is one.
+fn put_in(met: &mut FieldSet, list: Option<Field>)
+    ensures { IsPutIn list met.old met.new }
 {
-    let mut met = met;
     if let Some(field) = list {
         met.insert(field);
     }
-    met
 }
 
 // The word and the size of the TLV in front, behind others of the message with these octets, and its field where the message lists
@@ -61,11 +59,11 @@ fn take_tlv(
     body: &[u8],
     before: &[u8],
     rest: &[u8],
-    met: FieldSet,
+    met: &FieldSet,
 ) -> Result<(u16, usize, Option<Field>), Fault>
     requires some { 0 < length rest.now }
     requires few { length rest.now < 65536 }
-    requires met { (ts : List Tlv) → IsJoined before.now ts → HoldsListed (row_of kind) met ts }
+    requires met { (ts : List Tlv) → IsJoined before.now ts → HoldsListed (row_of kind) met.now ts }
     ensures taken { (ts : List Tlv) → IsJoined before.now ts → IfOk result (λ r. IsTaken (row_of kind) body.now ts rest.now r.0 r.1) }
     ensures list { IfOk result (λ r. r.2 ≡ listed (row_of kind) (type_in r.0)) }
     ensures some { IfOk result (λ r. 0 < r.1) }
@@ -113,11 +111,11 @@ pub fn walk_tlvs(kind: MessageKind, body: &[u8]) -> Result<(), Fault>
     let mut at = 0;
     'walking: while at < body.len() {
         let (before, rest) = body.split_at(at);
-        let (_, size, list) = match take_tlv(kind, body, before, rest, met) {
+        let (_, size, list) = match take_tlv(kind, body, before, rest, &met) {
             Ok(taken) => taken,
             Err(fault) => return Err(fault.behind(at as u16)),
         };
-        met = put_in(list, met);
+        put_in(&mut met, list);
         at += size;
     }
     Ok(())
