@@ -30,6 +30,7 @@ impl Model for Held {
 
 impl Held {
     /// No octets.
+    #[inline(always)]
     pub fn none() -> Held
         ensures { result ≡ [] }
     {
@@ -37,6 +38,7 @@ impl Held {
     }
 
     /// How many there are.
+    #[inline(always)]
     pub fn len(&self) -> usize
         ensures count { result ≡ length self.now }
         ensures within { result ≤ 4100 }

@@ -56,6 +56,7 @@ impl Peering {
     }
 
     /// The name of the session's state.
+    #[inline(always)]
     pub fn state(&self) -> StateName
         ensures { result ≡ phase_name self.now.session.phase }
     {
@@ -63,6 +64,7 @@ impl Peering {
     }
 
     /// Whether the session is up.
+    #[inline(always)]
     pub fn is_up(&self) -> bool
         ensures { result ≡ is_up_phase self.now.session.phase }
     {
@@ -70,6 +72,7 @@ impl Peering {
     }
 
     /// The most that a PDU Length may be, 256 to 4096 octets (RFC 5036 section 3.5.3).
+    #[inline(always)]
     pub fn max_pdu(&self) -> u16
         ensures value { result ≡ self.now.session.max_pdu }
         ensures least { 256 ≤ result }
@@ -82,6 +85,7 @@ impl Peering {
     }
 
     /// How many octets are held.
+    #[inline(always)]
     pub fn held(&self) -> usize
         ensures count { result ≡ length self.now.held }
         ensures within { result ≤ 4100 }
@@ -90,6 +94,7 @@ impl Peering {
     }
 
     /// Takes out the octets that are held, so that none are.
+    #[inline(always)]
     pub fn take_held(&mut self) -> Held
         ensures taken { result ≡ self.old.held }
         ensures rest { self.new ≡ record self.old { held = [] } }
@@ -98,6 +103,7 @@ impl Peering {
     }
 
     /// Holds these octets, in the place of those that were held.
+    #[inline(always)]
     pub fn hold(&mut self, held: Held)
         ensures { self.new ≡ record self.old { held = held } }
     {
@@ -105,6 +111,7 @@ impl Peering {
     }
 
     /// How many ticks pass before one that ends the session, or at which a KeepAlive is to be put (RFC 5036 section 2.5.6).
+    #[inline(always)]
     pub fn quiet(&self) -> u64
         ensures { result ≡ quiet_ticks self.now.session }
     {

@@ -20,6 +20,7 @@ impl PeerMarks {
     }
 
     /// Whether a neighbour is marked.
+    #[inline(always)]
     #[tactic(auto, unfolding(crate::specs::Marks::is_marked))]
     pub fn has(self, peer: EdgeId) -> bool
         ensures { result ≡ is_marked self peer.0 }
@@ -39,6 +40,7 @@ impl PeerMarks {
     }
 
     /// A neighbour is marked.
+    #[inline(always)]
     #[tactic(auto, using(crate::proofs::BitLemmas::bit_set, crate::proofs::BitLemmas::bit_past))]
     pub fn with(self, peer: EdgeId) -> PeerMarks
         ensures { (k : ℕ) → is_marked result k ≡ (k == peer.0 || is_marked self k) }
@@ -52,6 +54,7 @@ impl PeerMarks {
     }
 
     /// The mark of a neighbour is taken away.
+    #[inline(always)]
     #[tactic(auto, using(crate::proofs::BitLemmas::bit_cleared, crate::proofs::BitLemmas::bit_kept))]
     pub fn without(self, peer: EdgeId) -> PeerMarks
         ensures { (k : ℕ) → is_marked result k ≡ (if k == peer.0 then not (nat_lt k 64) else is_marked self k) }

@@ -49,6 +49,7 @@ impl PlaceList {
     }
 
     /// How many there are.
+    #[inline(always)]
     pub(crate) fn len(&self) -> usize
         ensures { result ≡ length self.now }
     {
@@ -63,6 +64,7 @@ impl PlaceList {
     }
 
     /// One of them.
+    #[inline(always)]
     pub(crate) fn place(&self, slot: usize) -> EndPlace
         requires { slot < length self.now }
         ensures { result ≡ slice_index_or self.now slot no_place }
@@ -71,6 +73,7 @@ impl PlaceList {
     }
 
     /// The first slot of a place that is beside a peer and of a wire with this PW ID.
+    #[inline(always)]
     pub(crate) fn find(&self, peer: EdgeId, pw_id: u32) -> Option<usize>
         ensures { result ≡ position (is_named peer pw_id) self.now }
     {

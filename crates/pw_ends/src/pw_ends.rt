@@ -94,6 +94,7 @@ impl PwEnds {
     }
 
     /// How many ends the edge has.
+    #[inline(always)]
     pub fn len(&self) -> usize
         ensures count { result ≡ length self.now.places }
     {
@@ -115,6 +116,7 @@ impl PwEnds {
     }
 
     /// Where the end of a slot is.
+    #[inline(always)]
     pub fn place(&self, slot: usize) -> EndPlace
         requires slot { slot < length self.now.places }
         ensures place { result ≡ place_of self.now slot }
@@ -124,6 +126,7 @@ impl PwEnds {
 
     /// The slot of the end beside a peer with this PW ID (RFC 8077 section 6.1), without a walk over the ends; `None` exactly
     /// where there is no such end.
+    #[inline(always)]
     #[tactic(auto, using(crate::proofs::IndexLemmas::found_steps))]
     pub fn find(&self, peer: EdgeId, pw_id: u32) -> Option<usize>
         ensures place { option_and_then (slice_get self.now.places) result ≡ find (is_named peer pw_id) self.now.places }
@@ -150,6 +153,7 @@ impl PwEnds {
 
     /// The slots of the ends of a wire, found by halves: the first one, and the one behind the last. Where the wire does not pass
     /// the edge, no slot is between them.
+    #[inline(always)]
     pub fn slots_of(&self, wire: WireId) -> (usize, usize)
         ensures slots { (slot : ℕ) → slot < length self.now.places → ((place_of self.now slot).wire.0 ≡ wire.0) ↔ (result.0 ≤ slot × slot < result.1) }
     {
@@ -157,6 +161,7 @@ impl PwEnds {
     }
 
     /// The slot of the end of a wire of which the edge is a terminal edge; `None` exactly where it is none.
+    #[inline(always)]
     pub fn terminal(&self, wire: WireId) -> Option<usize>
         ensures slot { result ≡ position (is_end_of_wire wire) self.now.places }
     {
@@ -178,6 +183,7 @@ impl PwEnds {
 
     /// The end of a slot. Where it advertises, its PW type has 15 bits. A label that it owns is that of its segment and side
     /// in the label space, given for its peer. What it holds can be told on.
+    #[inline(always)]
     #[tactic(auto, using(crate::proofs::SlotLemmas::seen_at, crate::proofs::KeptLemmas::slot_within, crate::proofs::KeptLemmas::ends_at, pw_signalling::proofs::EndsLemmas::moves))]
     pub fn end(&self, slot: usize) -> &PwEnd
         requires slot { slot < length self.now.places }
@@ -368,6 +374,7 @@ impl PwEnds {
     /// Whether it is known, without a walk over the ends, that nothing was told of any end beside a peer: to lose its session
     /// changes none of them, and none of them owns a label whose number would wait. So it is before the first change of such an end,
     /// and after each loss until the next one.
+    #[inline(always)]
     #[tactic(auto, using(crate::proofs::MarkLemmas::seen_untold))]
     pub fn is_untold(&self, peer: EdgeId) -> bool
         ensures untold { result ≡ true → changed_beside peer lost (seen_ends self.now) ≡ seen_ends self.now }
