@@ -1,12 +1,13 @@
 //! What enters at a circuit.
-ghost use Rattle.std.specs.Prelude.{◌≡◌, ◌≤◌, ◌+◌, ◌++◌, length, take, drop, Ok, Err, IfOk, IfErr, OnErr};
-ghost use Rattle.net_base.specs.trace.Frame.{inner as inner_of, untagged};
+ghost use Rattle.std.specs.Prelude.{◌≡◌, ◌≤◌, ◌+◌, ◌++◌, length, take, drop, None, Ok, Err, IfOk, IfErr, IfSome, MatchResult, OnErr};
+ghost use Rattle.net_base.specs.declared.trace.drop_cause.DropCause.TheVariants.{Down};
+ghost use Rattle.net_base.specs.{plan.Places.{service_of}, trace.Frame.{inner as inner_of, untagged}, trace.Isolated.{inner_at, mtu_by}};
 ghost use Rattle.eth_encap.specs.Fault.{cause_of};
 
 use crate::FrameFault;
 use crate::octets::join;
 use crate::tag::TAG_PROTOCOL;
-use net_base::pair;
+use net_base::{CircuitId, Plan, pair};
 
 // The octets of a frame and header that every frame has.
 const HEADER: usize = 14;
@@ -54,6 +55,27 @@ pub fn inner_parts(tag: Option<u16>, mtu: u16, frame: &[u8]) -> Result<(&[u8], &
         return Err(FrameFault::Long);
     }
     Ok((front, back))
+}
+
+/// The inner frame of what passes a circuit of a plan, by the circuit's tag and the MTU of its service, in parts and with the faults
+/// of `inner_parts`; `None` exactly where the plan has no such circuit, or none such service.
+pub fn inner_at<'a>(
+    plan: &Plan,
+    circuit: CircuitId,
+    frame: &'a [u8],
+) -> Option<Result<(&'a [u8], &'a [u8]), FrameFault>>
+    ensures read { IfSome result (λ read. MatchResult read (λ parts. inner_at plan.now circuit frame.now ≡ Ok (parts.0.now ++ parts.1.now)) (λ fault. inner_at plan.now circuit frame.now ≡ Err (cause_of fault))) }
+    ensures least { IfSome result (λ read. IfOk read (λ parts. 14 ≤ length parts.0.now + length parts.1.now)) }
+    ensures none { result ≡ None → inner_at plan.now circuit frame.now ≡ Err Down }
+    ensures unknown { result ≡ None → mtu_by plan.now (service_of plan.now circuit) ≡ None }
+{
+    let Some(row) = plan.circuits.get(circuit.0 as usize) else {
+        return None;
+    };
+    let Some(service) = plan.services.get(row.service.0 as usize) else {
+        return None;
+    };
+    Some(inner_parts(row.tag, service.mtu, frame))
 }
 
 /// The inner frame of what enters at a circuit, in one piece. Writes it to the front of `out`, which is as long

@@ -14,7 +14,7 @@ mod stack_entry;
 mod tag;
 mod unpacking;
 
-pub use entering::{inner, inner_parts};
+pub use entering::{inner, inner_at, inner_parts};
 pub use frame_fault::FrameFault;
 pub use laws::packed_is_unpacked;
 pub use leaving::dress;
