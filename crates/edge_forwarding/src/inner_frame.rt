@@ -3,7 +3,7 @@ ghost use Rattle.std.specs.Prelude.{◌≡◌, ◌<◌, ◌≤◌, ◌+◌, ◌+
 ghost use Rattle.net_base.specs.{plan.Accepted.{IsCircuitOf}, trace.Isolated.{inner_at}};
 ghost use Rattle.eth_encap.specs.Fault.{cause_of};
 
-use eth_encap::{FrameFault, inner_parts};
+use eth_encap::{FrameFault, inner_at};
 use net_base::{CircuitId, Plan};
 
 /// The inner frame of what comes by a circuit of the plan, or its first fault. Answers two parts of the octets that join to it, so
@@ -18,7 +18,8 @@ pub fn read_inner<'a>(
     ensures read { MatchResult result (λ parts. inner_at plan.now circuit octets.now ≡ Ok (parts.0.now ++ parts.1.now)) (λ fault. inner_at plan.now circuit octets.now ≡ Err (cause_of fault)) }
     ensures header { IfOk result (λ parts. 14 ≤ length parts.0.now + length parts.1.now) }
 {
-    let row = &plan.circuits.as_slice()[circuit.0 as usize];
-    let mtu = plan.services.as_slice()[row.service.0 as usize].mtu;
-    inner_parts(row.tag, mtu, octets)
+    match inner_at(plan, circuit, octets) {
+        Some(read) => read,
+        None => unreachable!(),
+    }
 }
