@@ -175,6 +175,7 @@ impl Edge {
 
     // What the edge makes of an input, on which nothing was given out before. Until it is done nothing is said of what was told
     // last of the wires, so the edge counts as stopped.
+    #[inline(always)]
     fn work<L: Link>(&mut self, input: Input<'_>, work: &mut AtWork<'_, L>) -> Result<(), NoMemory>
         requires range { IsInRange input }
         requires begun { IsBegun self.old work.old }
@@ -218,6 +219,7 @@ impl Edge {
     }
 
     /// Whether the edge's end of its connection with a peer stands.
+    #[inline(always)]
     #[tactic(auto, unfolding(crate::specs::Lists::seen))]
     pub fn has_end(&self, peer: EdgeId) -> bool
         ensures { result ≡ has_end (seen self.now) peer }
@@ -279,6 +281,7 @@ impl Edge {
     }
 
     /// Whether a circuit of the plan is on.
+    #[inline(always)]
     #[tactic(auto, using(crate::proofs::ForwardLemmas::circuit_read))]
     pub fn is_on(&self, circuit: CircuitId) -> bool
         requires { circuit.0 < length self.now.plan.circuits }
@@ -297,6 +300,7 @@ impl Edge {
     }
 
     /// The failure bits that are set of the edge's end of a wire of the plan, 0 to 31 (RFC 4446 section 3.5).
+    #[inline(always)]
     #[tactic(auto, unfolding(crate::specs::Lists::seen))]
     pub fn bits_of(&self, wire: WireId) -> u8
         requires { wire.0 < length self.now.plan.wires }

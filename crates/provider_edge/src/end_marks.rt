@@ -12,6 +12,7 @@ pub struct EndMarks {
 
 impl EndMarks {
     /// No slot has a mark.
+    #[inline(always)]
     pub(crate) fn none() -> EndMarks
         ensures { (slot : ℕ) → IsUnmarked result slot }
     {
@@ -19,6 +20,7 @@ impl EndMarks {
     }
 
     /// Whether no slot has a mark.
+    #[inline(always)]
     pub(crate) fn is_empty(self) -> bool
         ensures { result ≡ true → (slot : ℕ) → IsUnmarked self slot }
     {
@@ -26,6 +28,7 @@ impl EndMarks {
     }
 
     /// The same with the slots from one on, before another.
+    #[inline(always)]
     pub(crate) fn with(self, first: usize, past: usize) -> EndMarks
         ensures wider { IsWider self result }
         ensures within { (slot : ℕ) → first ≤ slot → slot < past → IsUnmarked result slot → ⊥ }
@@ -40,6 +43,7 @@ impl EndMarks {
     }
 
     /// The first slot that has a mark, or 0: no slot before it has one.
+    #[inline(always)]
     pub(crate) fn first(self) -> usize
         ensures { (slot : ℕ) → slot < result → IsUnmarked self slot }
     {
@@ -47,6 +51,7 @@ impl EndMarks {
     }
 
     /// Whether neither this slot nor any later one has a mark, where the first one was reached.
+    #[inline(always)]
     pub(crate) fn is_past(self, slot: usize) -> bool
         ensures { result ≡ true → (other : ℕ) → slot ≤ other → IsUnmarked self other }
     {

@@ -52,6 +52,7 @@ impl Sessions {
     }
 
     /// How many edges the plan has.
+    #[inline(always)]
     #[tactic(auto, using(crate::proofs::SessionsLemmas::length_later))]
     pub(crate) fn len(&self) -> usize
         ensures { result ≡ length self.now }
@@ -60,6 +61,7 @@ impl Sessions {
     }
 
     /// Whether something is kept of a neighbour.
+    #[inline(always)]
     #[tactic(auto, using(crate::proofs::SessionsLemmas::there_at))]
     pub(crate) fn has(&self, peer: EdgeId) -> bool
         ensures { result ≡ is_there (slice_index_or self.now peer.0 None) }
@@ -79,6 +81,7 @@ impl Sessions {
     }
 
     /// Whether the session with a neighbour is up.
+    #[inline(always)]
     #[tactic(auto, using(crate::proofs::SessionsLemmas::up_at))]
     pub(crate) fn is_up(&self, peer: EdgeId) -> bool
         ensures { result ≡ was_up (slice_index_or self.now peer.0 None) }
@@ -90,6 +93,7 @@ impl Sessions {
     }
 
     /// The most that a PDU Length of a neighbour may be.
+    #[inline(always)]
     #[tactic(auto, using(crate::proofs::SessionsLemmas::longest_at))]
     pub(crate) fn max_pdu(&self, peer: EdgeId) -> Option<u16>
         ensures value { result ≡ longest_of (slice_index_or self.now peer.0 None) }
@@ -200,6 +204,7 @@ fn none_kept(alloc: Global, count: usize) -> Result<Vec<Option<Peering>>, NoMemo
 }
 
 // What is kept of a neighbour, as it was before the ticks that it has not counted.
+#[inline(always)]
 fn look(kept: &[Option<Peering>], peer: EdgeId) -> Option<&Peering>
     ensures { option_copied result ≡ slice_index_or kept.now peer.0 None }
 {
@@ -217,6 +222,7 @@ fn is_none_kept(kept: &[Option<Peering>]) -> bool
 }
 
 // Each session counts so many ticks.
+#[inline(always)]
 #[tactic(auto, using(edge_forwarding::proofs::EachLemmas::each_next, crate::proofs::SessionsLemmas::later_none, crate::proofs::SessionsLemmas::quiet_at))]
 fn pass_all(kept: &mut Vec<Option<Peering>>, ticks: u64)
     requires { ticks ≤ least_quiet kept.old.items }
@@ -251,6 +257,7 @@ fn quiet_for(kept: &Option<Peering>) -> u64
 }
 
 // How many ticks of so many may pass, with this session. Where none may it is not asked.
+#[inline(always)]
 fn with_one(spare: u64, kept: &Option<Peering>) -> u64
     ensures { result ≡ min spare (quiet_for kept.now) }
 {
@@ -273,6 +280,7 @@ fn least_quiet(kept: &[Option<Peering>]) -> u64
 }
 
 // The marks with that of a neighbour, where something is kept of it, and else without.
+#[inline(always)]
 fn with_kept(standing: PeerMarks, peer: EdgeId, kept: &Option<Peering>) -> PeerMarks
     ensures { (k : ℕ) → is_marked result k ≡ (if k == peer.0 then is_there kept.now || not (nat_lt k 64) else is_marked standing k) }
 {

@@ -26,6 +26,7 @@ use peer_dialogue::AtWork;
 impl Edge {
     // What came by a port of a service, and was read as parts that join to its inner frame: what has a fault is dropped, and teaches
     // nothing. An inner frame of one part is not copied.
+    #[inline(always)]
     pub(crate) fn bridge_frame<L: Link>(
         &mut self,
         ingress: Ingress,
@@ -91,6 +92,7 @@ impl Edge {
 
     // The bridge of a service hears an inner frame by a port that forwards, and decides on the targets. What always holds of an edge is
     // proved again where this ends.
+    #[inline(always)]
     fn hear_frame(&mut self, arrival: u16, service: ServiceId, frame: &[u8]) -> PortSet
         requires working { self.old.stopped ≡ true }
         requires service { service.0 < length self.old.plan.services }
@@ -105,6 +107,7 @@ impl Edge {
     }
 
     // The ports of a service; `None` exactly where it has none at the edge. A function of its own, since it says so of the edge's plan.
+    #[inline(always)]
     pub(crate) fn ports(&self, service: ServiceId) -> Option<&Ports>
         requires { service.0 < length self.now.plan.services }
         ensures some { IfSome result (λ ports. ports.now ≡ ports_of self.now.plan service self.now.me) }
@@ -115,6 +118,7 @@ impl Edge {
 
     // The copy by the port of a number, where that is a target: at a circuit the frame with the circuit's tag, and on a wire a
     // packet.
+    #[inline(always)]
     fn put_copy<L: Link>(
         &self,
         ports: &Ports,

@@ -36,6 +36,7 @@ impl Edge {
     }
 
     // The port of a circuit of a service at the edge; it is open where the circuit is on.
+    #[inline(always)]
     pub(crate) fn port_of(&self, circuit: CircuitId, service: ServiceId) -> Option<u16>
         requires { service.0 < length self.now.plan.services }
         ensures port { result ≡ position (is_circuit_port circuit) (ports_of self.now.plan service self.now.me) }

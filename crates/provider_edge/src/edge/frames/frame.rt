@@ -43,6 +43,7 @@ impl Edge {
     }
 
     // The service of a circuit of the edge.
+    #[inline(always)]
     pub(crate) fn own_service(&self, circuit: CircuitId) -> Option<ServiceId>
         ensures { result ≡ own_service self.now.me (circuit_row self.now.plan circuit) }
     {

@@ -11,6 +11,7 @@ use net_base::{EdgeId, WireId};
 
 impl Edge {
     // These ends have a mark, or each may be unsettled.
+    #[inline(always)]
     pub(crate) fn keep_marks(&mut self, marks: Option<EndMarks>)
         requires working { self.old.stopped ≡ true }
         requires tidy { IfSome marks (λ marks. IsTidy self.old.plan (seen self.old) marks) }
@@ -21,6 +22,7 @@ impl Edge {
     }
 
     // Whether it is known that there is nothing to mend.
+    #[inline(always)]
     pub(crate) fn is_tidy(&self) -> bool
         ensures { result ≡ true → MendsNothing self.now.plan (seen self.now) }
     {
@@ -33,6 +35,7 @@ impl Edge {
     }
 
     // The first slot to be visited: no end before it has a mark.
+    #[inline(always)]
     pub(crate) fn first_marked(&self) -> usize
         ensures { (slot : ℕ) → slot < result → IsSettledAt self.now.plan (seen self.now) slot }
     {
@@ -45,6 +48,7 @@ impl Edge {
     }
 
     // Whether neither the end of this slot nor any later one has a mark.
+    #[inline(always)]
     pub(crate) fn is_past(&self, slot: usize) -> bool
         ensures { result ≡ true → (other : ℕ) → slot ≤ other → IsSettledAt self.now.plan (seen self.now) other }
     {
@@ -101,6 +105,7 @@ impl Edge {
     }
 
     // The marks after an event of the session with a peer: those of before, where it stands and is up or not as it was.
+    #[inline(always)]
     pub(crate) fn marks_after(
         &self,
         marks: Option<EndMarks>,

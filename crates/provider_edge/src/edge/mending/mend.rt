@@ -125,6 +125,7 @@ impl Edge {
     }
 
     // How many ends the edge has: those that the plan gives it, in the plan's order.
+    #[inline(always)]
     pub(crate) fn count_ends(&self) -> usize
         ensures count { result ≡ length self.now.ends.places }
         ensures places { self.now.ends.places ≡ end_places self.now.plan self.now.me }

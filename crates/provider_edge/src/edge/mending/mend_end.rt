@@ -243,6 +243,7 @@ impl Edge {
     }
 
     // Where the end of a slot is, at a wire of the plan.
+    #[inline(always)]
     #[tactic(auto, using(crate::proofs::ListLemmas::slot_wire))]
     pub(crate) fn place_at(&self, slot: usize) -> EndPlace
         requires { slot < length self.now.ends.places }
@@ -253,6 +254,7 @@ impl Edge {
     }
 
     /// The end of a slot: of the place of this number in `places`. Where it advertises, its PW type has 15 bits, and what it holds can be told on.
+    #[inline(always)]
     pub fn end_in(&self, slot: usize) -> &PwEnd
         requires { slot < length self.now.ends.places }
         ensures end { end_of result.now ≡ end_in self.now.ends slot }
@@ -277,6 +279,7 @@ impl Edge {
     }
 
     // Whether the wire is the one that is chosen for a service.
+    #[inline(always)]
     #[tactic(auto, unfolding(crate::specs::Lists::seen))]
     fn is_chosen(&self, wire: WireId, service: ServiceId) -> bool
         ensures { result ≡ is_chosen_wire wire ((seen self.now).chosen service.0) }

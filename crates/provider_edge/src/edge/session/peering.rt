@@ -21,6 +21,7 @@ impl Edge {
     }
 
     // Whether the session with a neighbour is up.
+    #[inline(always)]
     #[tactic(auto, unfolding(crate::specs::Lists::seen))]
     pub(crate) fn is_up(&self, peer: EdgeId) -> bool
         ensures { result ≡ was_up ((seen self.now).peering peer.0) }
@@ -29,6 +30,7 @@ impl Edge {
     }
 
     // The most that a PDU Length of a neighbour may be, where the edge's end of the connection stands.
+    #[inline(always)]
     #[tactic(auto, unfolding(crate::specs::Lists::seen))]
     pub(crate) fn max_pdu(&self, peer: EdgeId) -> Option<u16>
         ensures value { result ≡ longest_of ((seen self.now).peering peer.0) }
@@ -69,6 +71,7 @@ impl Edge {
 
     // Where no session with a neighbour stands, each end beside it is lost (RFC 5036 section 3.5.1.1), if something was told of one, and
     // its label waits for the neighbour.
+    #[inline(always)]
     pub(crate) fn clear_ends(&mut self, peer: EdgeId)
         requires working { self.old.stopped ≡ true }
         ensures keeps { Keeps self.old self.new }
@@ -148,6 +151,7 @@ impl Edge {
 }
 
 // How many octets are held of what is kept of a neighbour. It says so for the proof that these are few.
+#[inline(always)]
 fn held_in(kept: &Option<Peering>) -> usize
     ensures count { result ≡ length (held_octets kept.now) }
     ensures few { HoldsFew kept.now }
@@ -159,6 +163,7 @@ fn held_in(kept: &Option<Peering>) -> usize
 }
 
 // Whether the session stands, and is up or not as it was.
+#[inline(always)]
 fn stands_as(was_up: bool, left: &Option<Peering>) -> bool
     ensures { result ≡ stands_as was_up left.now }
 {

@@ -79,6 +79,7 @@ impl Edge {
     }
 
     // The address of an edge of the plan.
+    #[inline(always)]
     pub(crate) fn address_of(&self, edge: EdgeId) -> Option<Addr>
         ensures { result ≡ edge_address self.now.plan edge }
     {

@@ -15,6 +15,7 @@ use pw_tlvs::PwFec;
 
 impl Edge {
     // The slot of the end beside a peer with this PW ID.
+    #[inline(always)]
     pub(crate) fn slot_named(&self, peer: EdgeId, pw_id: u32) -> Option<usize>
         ensures named { option_map (place_of self.now.ends) result ≡ end_named self.now.plan self.now.me peer pw_id }
         ensures slot { IfSome result (λ slot. slot < length self.now.ends.places) }
@@ -23,6 +24,7 @@ impl Edge {
     }
 
     // The slot of the end that a FEC names, beside the peer that sent it; a FEC without a PW ID names none.
+    #[inline(always)]
     pub(crate) fn slot_of(&self, peer: EdgeId, fec: &PwFec) -> Option<usize>
         ensures named { option_map (place_of self.now.ends) result ≡ end_of_fec self.now.plan (seen self.now) peer fec.now }
         ensures slot { IfSome result (λ slot. slot < length self.now.ends.places) }
