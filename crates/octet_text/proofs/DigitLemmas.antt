@@ -1,8 +1,10 @@
 -- Digits where capital letters are digits, and where they are none: by lanes and one by one.
-use Rattle.std.proofs.Common.{◌≡◌, ◌<◌, ◌∙◌, ℕ, zero, suc, Bool, true, false, cond, List, [], ◌∷◌, drop, length, map, refl, ap, sym, arith, slice_index, take}
+use Rattle.std.proofs.Common.{◌≡◌, ◌<◌, ◌∙◌, ℕ, zero, suc, Bool, true, false, eqb, eqb→eq, List, [], ◌∷◌, drop, length, map, refl, ap, sym, arith, slice_index, take}
+use Rattle.std.proofs.lemmas.Bool.{agree_below, agree_below_at}
+use Rattle.std.proofs.lemmas.Float.{T_from_true}
 use Rattle.std.proofs.lemmas.List.{drop-map, length-map, take-map}
 use Rattle.std.specs.Simd.Lanes.{chunk}
-use Rattle.octet_text.specs.Hex.{digit_in, digit_value, digits_in, is_small, lowered, part, small_or_none, worth}
+use Rattle.octet_text.specs.Hex.{digit_in, digit_value, digits_in, lowered, part, small_or_none, small_part, worth}
 
 -- ---- parts of digits
 
@@ -46,14 +48,15 @@ pub as_they_are : (word : List ℕ) → word ≡ map (lowered false) word
 as_they_are [] = refl
 as_they_are (a ∷ rest) = ap (λ (l : List ℕ). a ∷ l) (as_they_are rest)
 
--- the value of a digit where capital letters are digits, where it is none of them, and where it is one and they are none
+-- the value of a digit where capital letters are digits, and where they are none
 pub any_part : (digit : ℕ) (capitals : Bool) → capitals ≡ true → part (digit_value digit) ≡ part (digit_value (digit_in capitals digit))
 any_part digit capitals is = ap (λ (c : Bool). part (digit_value (digit_in c digit))) (sym is)
 
-pub small_part : (digit : ℕ) (capitals : Bool) → capitals ≡ false → is_small digit ≡ true → part (digit_value digit) ≡ part (digit_value (digit_in capitals digit))
-small_part digit capitals is small =
-    sym (ap (λ (c : Bool). part (digit_value (digit_in c digit))) is ∙ ap (λ (b : Bool). part (digit_value (cond b digit 0))) small)
+agrees : agree_below (λ x. eqb (small_part x) (part (digit_value (small_or_none x)))) (λ _. true) 256 ≡ true
+agrees = refl
 
-pub no_part : (digit : ℕ) (capitals : Bool) → capitals ≡ false → is_small digit ≡ false → 256 ≡ part (digit_value (digit_in capitals digit))
-no_part digit capitals is large =
-    sym (ap (λ (c : Bool). part (digit_value (digit_in c digit))) is ∙ ap (λ (b : Bool). part (digit_value (cond b digit 0))) large)
+pub small_in : (digit : ℕ) (capitals : Bool) → capitals ≡ false → digit < 256 → small_part digit ≡ part (digit_value (digit_in capitals digit))
+small_in digit capitals is lt =
+    eqb→eq (small_part digit) (part (digit_value (small_or_none digit)))
+    (T_from_true (eqb (small_part digit) (part (digit_value (small_or_none digit)))) (agree_below_at (λ x. eqb (small_part x) (part (digit_value (small_or_none x)))) (λ _. true) 256 digit agrees lt))
+    ∙ ap (λ (c : Bool). part (digit_value (digit_in c digit))) (sym is)

@@ -1,6 +1,7 @@
 -- The first octet that is a mark cuts a text.
-use Rattle.std.proofs.Common.{◌≡◌, ◌<◌, ◌≤◌, ◌+◌, ◌==◌, ◌∙◌, ℕ, zero, suc, Bool, true, false, not, cond, List, [], ◌∷◌, Option, Some, None, length, nat_lt, take, drop, refl, ap, sym, add-one, arith, if◌then◌else◌}
+use Rattle.std.proofs.Common.{◌≡◌, ◌<◌, ◌≤◌, ◌+◌, ◌==◌, ◌∙◌, ℕ, zero, suc, Bool, true, false, not, cond, List, [], ◌∷◌, Some, None, is_some, length, nat_lt, take, drop, refl, ap, sym, add-one, arith, if◌then◌else◌}
 use Rattle.std.proofs.lemmas.Bool.{lt-ltb}
+use Rattle.std.proofs.lemmas.List.{take_all}
 use Rattle.std.proofs.lemmas.Bool.Decides.{nat_tests}
 use Rattle.std.specs.List.{after_first, before_first, position_or_len}
 use Rattle.net_values.proofs.NumberLemmas.{not_below_itself}
@@ -57,6 +58,17 @@ pub near_back : (mark : ℕ) (text : List ℕ) (at : ℕ) → 16 ≤ length text
     → behind_mark mark text ≡ (if nat_lt at (length text) then Some (drop (at + 1) text) else None)
 near_back mark text at long near none is = back_at mark text at (omega (arith, long, near)) none (is near)
 
+-- the text goes on behind what stands before its first mark where there is one
+pub longer_behind : (mark : ℕ) (text : List ℕ) → nat_lt (length (before_mark mark text)) (length text) ≡ is_some (behind_mark mark text)
+longer_behind mark [] = refl
+longer_behind mark (c ∷ cs) = by (c == mark) (longer_behind mark cs) where
+  by : (b : Bool) → nat_lt (length (before_mark mark cs)) (length cs) ≡ is_some (behind_mark mark cs)
+      → nat_lt (length (if b then [] else c ∷ before_mark mark cs)) (length (c ∷ cs)) ≡ is_some (if b then Some cs else behind_mark mark cs)
+  by true rest = lt-ltb 0 (length (c ∷ cs)) (omega arith)
+  by false rest =
+      let less : nat_lt (length (c ∷ before_mark mark cs)) (length (c ∷ cs)) ≡ nat_lt (length (before_mark mark cs)) (length cs) = grind (arith, nat_tests) in
+      less ∙ rest
+
 -- ---- the same by the place of the first mark
 
 pub before_is : (mark : ℕ) (text : List ℕ) → before_mark mark text ≡ before_first (λ octet. octet == mark) text
@@ -69,20 +81,25 @@ before_is mark (c ∷ cs) = by (c == mark) (before_is mark cs) where
       let more : 1 + position_or_len (λ octet. octet == mark) cs ≡ suc (position_or_len (λ octet. octet == mark) cs) = omega arith in
       ap (λ (l : List ℕ). c ∷ l) rest ∙ sym (ap (λ n. take n (c ∷ cs)) more)
 
-abbrev after_place : ℕ → List ℕ → Option (List ℕ)
-after_place at text = if nat_lt at (length text) then Some (drop (at + 1) text) else None
+-- a text whose first mark is at its end has none
+pub no_mark_before : (mark : ℕ) (text : List ℕ) → position_or_len (λ octet. octet == mark) text ≡ length text → before_mark mark text ≡ text
+no_mark_before mark text e = before_is mark text ∙ take_all (position_or_len (λ octet. octet == mark) text) text (omega (arith, e))
 
-after_more : (at c : ℕ) (cs : List ℕ) → after_place (1 + at) (c ∷ cs) ≡ after_place at cs
-after_more at c cs =
-    let more : 1 + at + 1 ≡ suc (at + 1) = omega arith in
-    let test : nat_lt (1 + at) (length (c ∷ cs)) ≡ nat_lt at (length cs) = grind (arith, nat_tests) in
-    rw (test, more) refl
+pub mark_behind : (mark : ℕ) (text : List ℕ) → position_or_len (λ octet. octet == mark) text < length text → behind_mark mark text ≡ Some (after_first (λ octet. octet == mark) text)
+mark_behind mark [] lt = absurd (omega (arith, lt))
+mark_behind mark (c ∷ cs) lt = by (c == mark) lt (mark_behind mark cs) where
+  by : (b : Bool) → cond (not b) (1 + position_or_len (λ octet. octet == mark) cs) 0 < length (c ∷ cs)
+      → (position_or_len (λ octet. octet == mark) cs < length cs → behind_mark mark cs ≡ Some (after_first (λ octet. octet == mark) cs))
+      → (if b then Some cs else behind_mark mark cs) ≡ Some (drop (cond (not b) (1 + position_or_len (λ octet. octet == mark) cs) 0 + 1) (c ∷ cs))
+  by true lt later = refl
+  by false lt later =
+      let more : 1 + position_or_len (λ octet. octet == mark) cs + 1 ≡ suc (position_or_len (λ octet. octet == mark) cs + 1) = omega arith in
+      later (omega (arith, lt)) ∙ ap Some (sym (ap (λ n. drop n (c ∷ cs)) more))
 
-pub behind_is : (mark : ℕ) (text : List ℕ) → behind_mark mark text
-    ≡ (if nat_lt (position_or_len (λ octet. octet == mark) text) (length text) then Some (after_first (λ octet. octet == mark) text) else None)
-behind_is mark [] = refl
-behind_is mark (c ∷ cs) = by (c == mark) (behind_is mark cs) where
-  by : (b : Bool) → behind_mark mark cs ≡ after_place (position_or_len (λ octet. octet == mark) cs) cs
-      → (if b then Some cs else behind_mark mark cs) ≡ after_place (cond (not b) (1 + position_or_len (λ octet. octet == mark) cs) 0) (c ∷ cs)
-  by true rest = rw (lt-ltb 0 (length (c ∷ cs)) (omega arith)) refl
-  by false rest = rest ∙ sym (after_more (position_or_len (λ octet. octet == mark) cs) c cs)
+pub no_mark_behind : (mark : ℕ) (text : List ℕ) → position_or_len (λ octet. octet == mark) text ≡ length text → behind_mark mark text ≡ None
+no_mark_behind mark [] e = refl
+no_mark_behind mark (c ∷ cs) e = by (c == mark) e (no_mark_behind mark cs) where
+  by : (b : Bool) → cond (not b) (1 + position_or_len (λ octet. octet == mark) cs) 0 ≡ length (c ∷ cs) → (position_or_len (λ octet. octet == mark) cs ≡ length cs → behind_mark mark cs ≡ None)
+      → (if b then Some cs else behind_mark mark cs) ≡ None
+  by true e later = absurd (omega (arith, e))
+  by false e later = later (omega (arith, e))

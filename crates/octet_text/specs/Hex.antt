@@ -19,6 +19,10 @@ pair_value a b = option_and_then (λ high. option_map (λ low. high * 16 + low) 
 abbrev pub part : Option ℕ → ℕ
 part value = unwrap_or value 256
 
+-- the same where capital letters are no digits
+abbrev pub small_part : ℕ → ℕ
+small_part octet = if nat_le 48 octet && nat_le octet 57 then octet - 48 else if nat_le 97 octet && nat_le octet 102 then octet - 87 else 256
+
 -- what a digit is worth; 255 where it is none
 abbrev pub worth : ℕ → ℕ
 worth octet = unwrap_or (digit_value octet) 255

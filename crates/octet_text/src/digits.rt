@@ -1,7 +1,7 @@
 //! Octets as pairs of hexadecimal digits.
 ghost use Rattle.std.specs.Prelude.{◌≡◌, ◌≤◌, ◌+◌, ◌*◌, ◌%◌, nat_lt, Some, None, length, map, if◌then◌else◌, IfOk};
 ghost use Rattle.std.specs.Simd.Lanes.{chunk, put_chunk};
-ghost use Rattle.octet_text.specs.Hex.{digit_in, digit_value, digits_in, is_small, lowered, pair_value, part, unhex, worth};
+ghost use Rattle.octet_text.specs.Hex.{digit_in, digit_value, digits_in, lowered, pair_value, part, small_part, unhex, worth};
 
 use net_values::{List, NoMemory, Octets};
 use std::alloc::Global;
@@ -84,14 +84,6 @@ fn fill_eights(capitals: bool, digits: &[u8], room: &mut [u8]) -> bool
     all
 }
 
-// Whether this is no capital letter.
-#[inline(always)]
-fn is_small_octet(octet: u8) -> bool
-    ensures { result ≡ is_small octet }
-{
-    !octet.is_ascii_uppercase()
-}
-
 // The value of a digit; 256 where it is none.
 #[inline(always)]
 fn any_value(digit: u8) -> u16
@@ -106,19 +98,30 @@ fn any_value(digit: u8) -> u16
     }
 }
 
-// The same, where capital letters are digits or none.
+// The same where capital letters are no digits.
 #[inline(always)]
-#[tactic(auto, using(crate::proofs::DigitLemmas::any_part, crate::proofs::DigitLemmas::small_part, crate::proofs::DigitLemmas::no_part))]
+fn small_value(digit: u8) -> u16
+    ensures part { result ≡ small_part digit }
+    ensures within { result ≤ 256 }
+{
+    match digit {
+        48..=57 => (digit - 48) as u16,
+        97..=102 => (digit - 87) as u16,
+        _ => 256,
+    }
+}
+
+// The same where capital letters are digits or none.
+#[inline(always)]
+#[tactic(auto, using(crate::proofs::DigitLemmas::any_part, crate::proofs::DigitLemmas::small_in))]
 fn value(capitals: bool, digit: u8) -> u16
     ensures part { result ≡ part (digit_value (digit_in capitals digit)) }
     ensures within { result ≤ 256 }
 {
     if capitals {
         any_value(digit)
-    } else if is_small_octet(digit) {
-        any_value(digit)
     } else {
-        256
+        small_value(digit)
     }
 }
 

@@ -1,7 +1,7 @@
 //! Lines of a script.
 ghost use Rattle.std.specs.Prelude.{◌≡◌, drop, length, slice_get, option_map};
 
-use crate::words::{after, count, first};
+use crate::words::{after, count, word};
 use net_base::Word;
 use std::marker::Model;
 
@@ -38,20 +38,10 @@ impl Line {
     }
 
     /// The word at an index from 0; `None` exactly where the index is not below the length.
-    #[tactic(auto, using(crate::proofs::PartLemmas::word_step, crate::proofs::PartLemmas::word_none))]
     pub fn word(&self, index: usize) -> Option<&str>
         ensures { option_map (λ w. w.now) result ≡ slice_get self.now index }
     {
-        let mut rest = self.text.as_str();
-        let mut left = index;
-        'skipping: while left > 0 {
-            match after(rest) {
-                Some(next) => rest = next,
-                None => return None,
-            }
-            left -= 1;
-        }
-        Some(first(rest))
+        word(self.text.as_str(), index)
     }
 
     /// What follows the first word and its space; empty where there is no second word.
