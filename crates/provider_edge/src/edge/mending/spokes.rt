@@ -109,7 +109,7 @@ impl Edge {
         requires { slot < length self.now.ends.places }
         ensures { (number : ℕ) → (is_less least number || is_usable_below number (spoke_at (seen self.now) (place_of self.now.ends slot))) ≡ is_less result number }
     {
-        let priority = self.priority_at(slot);
+        let priority = self.priority_of(self.place_at(slot).wire);
         if is_at_most(least, priority) || !self.spoke_at(slot).usable {
             return least;
         }
@@ -151,14 +151,6 @@ impl Edge {
         ensures places { self.now.ends.places ≡ end_places self.now.plan self.now.me }
     {
         self.spokes.slots(service)
-    }
-
-    // The priority number of the spoke of an end.
-    fn priority_at(&self, slot: usize) -> u8
-        requires { slot < length self.now.ends.places }
-        ensures { result ≡ (spoke_at (seen self.now) (place_of self.now.ends slot)).priority }
-    {
-        self.priority_of(self.place_at(slot).wire)
     }
 
     // The spoke of an end as the choice sees it: it can be used where the end would forward if its spoke were the chosen one.

@@ -2,7 +2,7 @@
 ghost use Rattle.std.specs.Prelude.{◌≡◌, ◌<◌, Some, true, length, IfOk, OnOk};
 ghost use Rattle.net_base.specs.{declared.plan.wire_plan.WirePlan.{WirePlan}, plan.Places.{wire_row}};
 ghost use Rattle.pw_ends.specs.Ends.{place_of};
-ghost use Rattle.edge_model.specs.{Echo.{ping_number}, Ping.{far_address, far_terminal, following_ping, pinging}};
+ghost use Rattle.edge_model.specs.{Echo.{ping_number}, Ping.{far_address, following_ping, pinging}};
 ghost use Rattle.edge_model.specs.declared.input.Input.TheVariants as input;
 ghost use Rattle.provider_edge.specs.{AtWork.{IsBegun, Takes, TakesBy}, Lists.{Keeps, seen}, Pings.{ping_of, request_of}};
 
@@ -10,7 +10,7 @@ use crate::Edge;
 use crate::echo::request_under;
 use crate::edge::packets::stitched::has_told;
 use crate::spokes::is_first;
-use net_base::{Addr, Arrival, EdgeId, Link, NoMemory, Octets, WireId, first_of, last_of};
+use net_base::{Addr, Arrival, Link, NoMemory, Octets, WireId, first_of, last_of};
 use peer_dialogue::AtWork;
 use std::alloc::Global;
 use vccv_channel::Ping;
@@ -85,7 +85,12 @@ impl Edge {
         ensures { (row : WirePlan) → wire_row self.now.plan wire ≡ Some row → result ≡ far_address self.now.plan self.now.me row }
     {
         let path = self.plan.wires.as_slice()[wire.0 as usize].path.as_slice();
-        match far_terminal(self.me, path) {
+        let far = if is_first(path, self.me) {
+            last_of(path)
+        } else {
+            first_of(path)
+        };
+        match far {
             Some(far) => self.address_of(far),
             None => None,
         }
@@ -108,17 +113,6 @@ impl Edge {
         ensures { result ≡ (seen self.now).next_ping wire.0 }
     {
         self.pings[wire.0 as usize]
-    }
-}
-
-// The terminal edge of a path at its other end.
-fn far_terminal(me: EdgeId, path: &[EdgeId]) -> Option<EdgeId>
-    ensures { result ≡ far_terminal me path.now }
-{
-    if is_first(path, me) {
-        last_of(path)
-    } else {
-        first_of(path)
     }
 }
 
