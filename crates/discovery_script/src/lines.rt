@@ -1,60 +1,69 @@
 //! The lines of a script.
-ghost use Rattle.std.specs.Prelude.{◌≡◌, IfOk};
+ghost use Rattle.std.specs.Prelude.{◌≡◌, ◌<◌, map, IfOk};
 ghost use Rattle.net_base.specs.declared.plan.Plan.{Plan};
 ghost use Rattle.plan_names.specs.Planned.{names_of};
 ghost use Rattle.discovery_script.specs.Planned.{IsDiscoveryLineOf};
-ghost use Rattle.discovery_script.specs.Lines.{bring_in, do_in, hello_in, is_barred, discovery_line_of, open_in, said_behind, tick_line};
+ghost use Rattle.discovery_script.specs.Lines.{discovery_forms, discovery_line_of, discovery_made, do_in, is_barred, said_behind};
+ghost use Rattle.line_shapes.specs.{Script.{made_at}, Shapes.{AreSmall, AreValuesOf, form_at, form_of, line_said}};
 ghost use Rattle.script_text.specs.Reading.{GivesScript};
 
 use crate::script_line::ScriptLine;
 use command_text::{is_same, words};
+use line_shapes::Kind::{Edge, Number};
+use line_shapes::{Shape, Values, read_shaped};
+use net_base::Plan;
 use scenario_text::{WordFault, read_command_with};
 use script_text::ScriptFault;
 use script_words::NumberedLine;
 use std::alloc::Global;
 
-// `hello E P N`, with N from 0 to 65535.
-#[tactic(auto, unfolding(crate::specs::Lines::hello_in))]
-fn hello(line: NumberedLine<'_, '_>) -> Result<ScriptLine, ScriptFault>
-    ensures exact { result ≡ hello_in line.entry.names.now line.entry.number line.entry.line.now }
-    ensures planned { (plan : Plan) → line.entry.names.now ≡ names_of plan → IfOk result (IsDiscoveryLineOf plan) }
+// The shape of each line but `do`.
+fn discovery_shapes() -> &'static [Shape<'static>]
+    ensures { map form_of result.now ≡ discovery_forms }
 {
-    let (from, to) = line.edges()?;
-    let hold = line.decimal(0, 65535, 4)? as u16;
-    line.ends(4)?;
-    Ok(ScriptLine::Hello { from, to, hold })
+    &[
+        Shape(b"hello", &[Edge, Edge, Number(0, 65535)]),
+        Shape(b"bring", &[Number(1, u64::MAX)]),
+        Shape(b"open", &[Edge, Edge]),
+        Shape(b"tick", &[]),
+    ]
 }
 
-// `bring K`, with K from 1 to 18446744073709551615.
-#[tactic(auto, unfolding(crate::specs::Lines::bring_in))]
-fn bring(line: NumberedLine<'_, '_>) -> Result<ScriptLine, ScriptFault>
-    ensures exact { result ≡ bring_in line.entry.number line.entry.line.now }
-    ensures planned { (plan : Plan) → IfOk result (IsDiscoveryLineOf plan) }
+// The line of a row and its values.
+fn made(plan: &Plan, row: usize, values: &Values) -> ScriptLine
+    requires row { row < 4 }
+    requires fit { AreValuesOf plan.now (form_at discovery_forms row).kinds values.now }
+    requires small { AreSmall (form_at discovery_forms row).kinds values.now }
+    ensures exact { result ≡ discovery_made row values.now }
+    ensures planned { IsDiscoveryLineOf plan.now result }
 {
-    let hello = line.decimal(1, u64::MAX, 2)?;
-    line.ends(2)?;
-    Ok(ScriptLine::Bring { number: hello })
+    match row {
+        0 => ScriptLine::Hello {
+            from: values.edge(0),
+            to: values.edge(1),
+            hold: values.at(2) as u16,
+        },
+        1 => ScriptLine::Bring {
+            number: values.at(0),
+        },
+        2 => ScriptLine::Open {
+            from: values.edge(0),
+            to: values.edge(1),
+        },
+        _ => ScriptLine::Tick,
+    }
 }
 
-// `open E P`.
-#[tactic(auto, unfolding(crate::specs::Lines::open_in))]
-fn open(line: NumberedLine<'_, '_>) -> Result<ScriptLine, ScriptFault>
-    ensures exact { result ≡ open_in line.entry.names.now line.entry.number line.entry.line.now }
-    ensures planned { (plan : Plan) → line.entry.names.now ≡ names_of plan → IfOk result (IsDiscoveryLineOf plan) }
+// A line that is a row.
+fn row(plan: &Plan, line: NumberedLine<'_, '_>) -> Result<ScriptLine, ScriptFault>
+    requires names { line.names.now ≡ names_of plan.now }
+    ensures exact { result ≡ made_at discovery_made line.entry.number (line_said plan.now discovery_forms line.entry.line.now) }
+    ensures planned { IfOk result (IsDiscoveryLineOf plan.now) }
 {
-    let (from, to) = line.edges()?;
-    line.ends(3)?;
-    Ok(ScriptLine::Open { from, to })
-}
-
-// `tick`.
-#[tactic(auto, unfolding(crate::specs::Lines::tick_line))]
-fn tick(line: NumberedLine<'_, '_>) -> Result<ScriptLine, ScriptFault>
-    ensures exact { result ≡ tick_line line.entry.number line.entry.line.now }
-    ensures planned { (plan : Plan) → IfOk result (IsDiscoveryLineOf plan) }
-{
-    line.ends(1)?;
-    Ok(ScriptLine::Tick)
+    match read_shaped(plan, line.names, discovery_shapes(), line.line) {
+        Ok((row, values)) => Ok(made(plan, row, &values)),
+        Err(word) => Err(line.bad(word)),
+    }
 }
 
 // Whether a script may not say a command of this first word.
@@ -96,22 +105,18 @@ fn command(alloc: Global, line: NumberedLine<'_, '_>) -> Result<ScriptLine, Scri
 /// The line that words are. `Bad` comes exactly at the first word that fits no line: one that is missing stands at its number, one too
 /// many at its own.
 #[tactic(auto, unfolding(crate::specs::Lines::discovery_line_of))]
-pub fn read_line(alloc: Global, line: NumberedLine<'_, '_>) -> Result<ScriptLine, ScriptFault>
-    ensures exact { GivesScript result (discovery_line_of line.entry.names.now line.entry.number line.entry.line.now) }
-    ensures planned { (plan : Plan) → line.entry.names.now ≡ names_of plan → IfOk result (IsDiscoveryLineOf plan) }
+pub fn read_line(
+    alloc: Global,
+    plan: &Plan,
+    line: NumberedLine<'_, '_>,
+) -> Result<ScriptLine, ScriptFault>
+    requires names { line.names.now ≡ names_of plan.now }
+    ensures exact { GivesScript result (discovery_line_of plan.now line.entry.number line.entry.line.now) }
+    ensures planned { IfOk result (IsDiscoveryLineOf plan.now) }
 {
-    let word = line.first();
-    if is_same(word, "hello") {
-        hello(line)
-    } else if is_same(word, "bring") {
-        bring(line)
-    } else if is_same(word, "open") {
-        open(line)
-    } else if is_same(word, "tick") {
-        tick(line)
-    } else if is_same(word, "do") {
+    if is_same(line.first(), "do") {
         command(alloc, line)
     } else {
-        Err(line.bad(1))
+        row(plan, line)
     }
 }

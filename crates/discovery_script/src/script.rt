@@ -1,6 +1,6 @@
 //! A whole script.
 ghost use Rattle.std.specs.Prelude.{◌≡◌, ◌<◌, ◌^◌, ◌-◌, All, IfOk, length};
-ghost use Rattle.net_base.specs.{declared.plan.Plan.{Plan}, plan.Accepted.{IsChecked}};
+ghost use Rattle.net_base.specs.plan.Accepted.{IsChecked};
 ghost use Rattle.plan_names.specs.Planned.{names_of};
 ghost use Rattle.discovery_script.specs.{Planned.{IsDiscoveryLineOf}, Lines.{discovery_lines_in}};
 ghost use Rattle.script_text.specs.Reading.{GivesScript};
@@ -17,17 +17,19 @@ use std::alloc::Global;
 #[tactic(auto, unfolding(crate::specs::Lines::discovery_lines_in, script_words::specs::Reading::script_said), using(script_words::proofs::CountLemmas::few_lines))]
 fn read_with(
     alloc: Global,
+    plan: &Plan,
     names: &PlanNames<'_>,
     text: &[u8],
 ) -> Result<List<ScriptLine>, ScriptFault>
-    requires { length text.now < 2 ^ 32 - 2 }
-    ensures exact { GivesScript result (discovery_lines_in names.now text.now) }
-    ensures planned { (plan : Plan) → names.now ≡ names_of plan → IfOk result (All (IsDiscoveryLineOf plan)) }
+    requires names { names.now ≡ names_of plan.now }
+    requires few { length text.now < 2 ^ 32 - 2 }
+    ensures exact { GivesScript result (discovery_lines_in plan.now text.now) }
+    ensures planned { IfOk result (All (IsDiscoveryLineOf plan.now)) }
 {
     let lines = read_lines(alloc, text)?;
     let mut read = List::new(alloc);
     for (place, line) in lines.as_slice().iter().enumerate() {
-        read.push(read_line(alloc, NumberedLine::at(names, place, line))?)?;
+        read.push(read_line(alloc, plan, NumberedLine::at(names, place, line))?)?;
     }
     Ok(read)
 }
@@ -38,7 +40,7 @@ fn read_with(
 pub fn read_script(alloc: Global, plan: &Plan, text: &[u8]) -> Result<List<ScriptLine>, ScriptFault>
     requires checked { IsChecked plan.now }
     requires few { length text.now < 2 ^ 32 - 2 }
-    ensures exact { GivesScript result (discovery_lines_in (names_of plan.now) text.now) }
+    ensures exact { GivesScript result (discovery_lines_in plan.now text.now) }
     ensures planned { IfOk result (All (IsDiscoveryLineOf plan.now)) }
 {
     let Ok(lists) = NameLists::of(alloc, plan) else {
@@ -46,7 +48,7 @@ pub fn read_script(alloc: Global, plan: &Plan, text: &[u8]) -> Result<List<Scrip
     };
     match lists.indexed(alloc) {
         Ok(names) => {
-            let lines = read_with(alloc, &names, text);
+            let lines = read_with(alloc, plan, &names, text);
             drop(names);
             lines
         }

@@ -13,7 +13,6 @@ use Rattle.net_base.specs.plan.Paths.{are_joined}
 use Rattle.net_base.specs.plan.Planned.{IsEventOf, IsFrame}
 use Rattle.command_run.specs.Made.{made_by}
 use Rattle.command_run.proofs.PlannedLemmas.{made_planned}
-use Rattle.plan_names.specs.Planned.{names_of}
 use Rattle.command_text.specs.Planned.{IsPlanned}
 use Rattle.discovery_net.specs.Acts.{Act, Does, Tells, events_in}
 use Rattle.discovery_net.specs.Deeds.{Discovery as DiscoveryState, Hello, adjacency_lives, hello_numbered, octets_of_hello, discovery_opened}
@@ -175,10 +174,10 @@ reads_script file script = record {
 
 -- what comes behind both files
 script_next : (file script octets : List ℕ) (scenario : Scenario) (text : List ℕ) → document text ≡ Ok scenario
-    → IsNextInput (Discover file script) (text ∷ octets ∷ []) (next_script (Discovery scenario.plan) (discovery_lines_in (names_of scenario.plan) octets))
+    → IsNextInput (Discover file script) (text ∷ octets ∷ []) (next_script (Discovery scenario.plan) (discovery_lines_in scenario.plan octets))
 script_next file script octets scenario text is =
     next_after (λ s it. IsNextBehind (script_file script) (IsNextDiscovery s) (octets ∷ []) it) text (Ok scenario)
-    (next_script (Discovery scenario.plan) (discovery_lines_in (names_of scenario.plan) octets)) is refl
+    (next_script (Discovery scenario.plan) (discovery_lines_in scenario.plan octets)) is refl
 
 -- one of the files was not had
 pub discovery_lacks : (around : Around) (file script : List ℕ) (network : Option NetLists) (outcome : Outcome)
@@ -209,31 +208,31 @@ lines_answer around file script plan lines network outcome come (inr none) = non
 
 pub discovery_answers : (around : Around) (file script octets lent : List ℕ) (scenario : Scenario) (network : Option NetLists) (outcome : Outcome) → lent ≡ octets
     → HasBoth around.files file (script_wanted script) scenario octets
-    → EndsScript (discovery_lines_in (names_of scenario.plan) lent)
+    → EndsScript (discovery_lines_in scenario.plan lent)
     (λ lines. EndsDiscovery scenario.plan lines (lines_written around.taken_before around.sink_before []) (lines_written around.taken_after around.sink_after []) network outcome)
     (lines_written around.taken_before around.sink_before []) (lines_written around.taken_after around.sink_after []) network outcome
     → SaysOutcome around (Discover file script) network outcome
 discovery_answers around file script octets lent scenario network outcome same both ends =
-    script_ended around (Discover file script) file octets (script_wanted script) scenario (discovery_lines_in (names_of scenario.plan) octets) (Discovery scenario.plan)
+    script_ended around (Discover file script) file octets (script_wanted script) scenario (discovery_lines_in scenario.plan octets) (Discovery scenario.plan)
     (λ lines. EndsDiscovery scenario.plan lines (old_of around) (now_of around) network outcome) network outcome (reads_script file script) both (script_next file script octets scenario)
     (λ lines come it. lines_answer around file script scenario.plan lines network outcome come it)
-    (subst (λ (o : List ℕ). EndsScript (discovery_lines_in (names_of scenario.plan) o) (λ lines. EndsDiscovery scenario.plan lines (old_of around) (now_of around) network outcome)
+    (subst (λ (o : List ℕ). EndsScript (discovery_lines_in scenario.plan o) (λ lines. EndsDiscovery scenario.plan lines (old_of around) (now_of around) network outcome)
     (old_of around) (now_of around) network outcome) same ends)
 
 pub ruleset file_steps = (discovery_lacks, discovery_reads, discovery_answers)
 
 -- ---- on the way
 
-pub lines_end : (plan : Plan) (octets : List ℕ) (lines : List ScriptLine) (old now : Written) (network : Option NetLists) (outcome : Outcome) → discovery_lines_in (names_of plan) octets
+pub lines_end : (plan : Plan) (octets : List ℕ) (lines : List ScriptLine) (old now : Written) (network : Option NetLists) (outcome : Outcome) → discovery_lines_in plan octets
     ≡ Ok lines → EndsDiscovery plan lines old now network outcome
-    → EndsScript (discovery_lines_in (names_of plan) octets) (λ ls. EndsDiscovery plan ls old now network outcome) old now network outcome
+    → EndsScript (discovery_lines_in plan octets) (λ ls. EndsDiscovery plan ls old now network outcome) old now network outcome
 lines_end plan octets lines old now network outcome is ends = inl (record { lines = lines; is = is; ends = ends })
 
 pub refused_end : (plan : Plan) (octets : List ℕ) (fault : ScriptFault) (old : Written) (network : Option NetLists) (made outcome : Outcome)
-    → FailsScript fault (discovery_lines_in (names_of plan) octets) → made ≡ outcome_of_script fault → network ≡ None
-    → outcome ≡ made → EndsScript (discovery_lines_in (names_of plan) octets) (λ ls. EndsDiscovery plan ls old old network outcome) old old network outcome
+    → FailsScript fault (discovery_lines_in plan octets) → made ≡ outcome_of_script fault → network ≡ None
+    → outcome ≡ made → EndsScript (discovery_lines_in plan octets) (λ ls. EndsDiscovery plan ls old old network outcome) old old network outcome
 refused_end plan octets fault old network made outcome fails is none same =
-    inr (record { why = no_lines (discovery_lines_in (names_of plan) octets) fault outcome fails (same ∙ is); taken = refl; no_run = none })
+    inr (record { why = no_lines (discovery_lines_in plan octets) fault outcome fails (same ∙ is); taken = refl; no_run = none })
 
 pub ruleset script_steps = (lines_end, refused_end)
 

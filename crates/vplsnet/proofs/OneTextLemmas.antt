@@ -11,7 +11,6 @@ use Rattle.discovery_script.specs.declared.script_line.ScriptLine.{ScriptLine}
 use Rattle.discovery_script.specs.Lines.{discovery_lines_in}
 use Rattle.discovery_text.specs.Text.{discovery_report}
 use Rattle.command_text.specs.declared.scenario_fault.ScenarioFault.{ScenarioFault}
-use Rattle.plan_names.specs.Planned.{names_of}
 use Rattle.capture_text.specs.Capture.{capture_text}
 use Rattle.ldp_stream.specs.Parsed.{PlacedPdu}
 use Rattle.ldp_stream.proofs.ParsedLemmas.{one_parsing}
@@ -152,7 +151,7 @@ never_migrates (Discover file script) scenario [] one is = absurd (cc (is))
 never_migrates (Discover file script) scenario (octets ∷ read) one is =
     never_after (λ read_as it. IsNextBehind (script_file script) (IsNextDiscovery read_as) read it) (document octets) scenario
     (λ read_as next. never_behind _ (IsNextDiscovery read_as) scenario
-    (λ text same. never_script (Discovery read_as.plan) (discovery_lines_in (names_of read_as.plan) text) scenario (λ lines wrong. absurd (cc (wrong))) same) read next) is
+    (λ text same. never_script (Discovery read_as.plan) (discovery_lines_in read_as.plan text) scenario (λ lines wrong. absurd (cc (wrong))) same) read next) is
 never_migrates (Switchover file script) scenario [] one is = absurd (cc (is))
 never_migrates (Switchover file script) scenario (octets ∷ read) one is =
     never_after (λ read_as it. IsNextBehind (script_file script) (IsNextExchange read_as) read it) (document octets) scenario

@@ -4,7 +4,6 @@ use Rattle.net_base.specs.declared.plan.Plan.{Plan}
 use Rattle.command_text.specs.declared.command.Command.{Command}
 use Rattle.command_text.specs.declared.command.Command.TheVariants.{One, Settle, Flow, Ticks, Play}
 use Rattle.command_text.specs.declared.scenario_fault.ScenarioFault.{ScenarioFault}
-use Rattle.plan_names.specs.Planned.{names_of}
 use Rattle.discovery_script.specs.declared.script_line.ScriptLine.{ScriptLine}
 use Rattle.discovery_script.specs.Lines.{discovery_lines_in}
 use Rattle.pcap_file.specs.declared.capture_fault.CaptureFault.{CaptureFault}
@@ -125,7 +124,7 @@ next_script work (Ok lines) = Works (work lines)
 
 -- behind a script of discovery
 abbrev pub IsNextDiscovery : Scenario → List ℕ → Next → Type 0
-IsNextDiscovery scenario octets next = next ≡ next_script (Discovery scenario.plan) (discovery_lines_in (names_of scenario.plan) octets)
+IsNextDiscovery scenario octets next = next ≡ next_script (Discovery scenario.plan) (discovery_lines_in scenario.plan octets)
 
 -- behind a script of switchovers
 abbrev pub IsNextExchange : Scenario → List ℕ → Next → Type 0

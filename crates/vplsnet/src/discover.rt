@@ -1,6 +1,5 @@
 //! The command `discover`: the report of a script over the network of a scenario.
 ghost use Rattle.std.specs.Prelude.{◌≡◌, ◌<◌, ◌^◌, ◌-◌, [], All, length};
-ghost use Rattle.plan_names.specs.Planned.{names_of};
 ghost use Rattle.discovery_script.specs.{Lines.{discovery_lines_in}, Planned.{IsDiscoveryLineOf}};
 ghost use Rattle.net_base.specs.plan.Accepted.{IsChecked};
 ghost use Rattle.text_lines.specs.Written.{PutsOn, lines_written};
@@ -47,7 +46,7 @@ fn discover<K: Sink>(alloc: Global, plan: &Plan, script: &[u8], sink: &mut K) ->
     requires checked { IsChecked plan.now }
     requires few { length script.now < 2 ^ 32 - 2 }
     ensures status { result.status ≡ exit_status result.outcome }
-    ensures ends { EndsScript (discovery_lines_in (names_of plan.now) script.now) (λ lines. EndsDiscovery plan.now lines (lines_written (K.taken sink.old) (K.faults sink.old) []) (lines_written (K.taken sink.new) (K.faults sink.new) []) result.network result.outcome) (lines_written (K.taken sink.old) (K.faults sink.old) []) (lines_written (K.taken sink.new) (K.faults sink.new) []) result.network result.outcome }
+    ensures ends { EndsScript (discovery_lines_in plan.now script.now) (λ lines. EndsDiscovery plan.now lines (lines_written (K.taken sink.old) (K.faults sink.old) []) (lines_written (K.taken sink.new) (K.faults sink.new) []) result.network result.outcome) (lines_written (K.taken sink.old) (K.faults sink.old) []) (lines_written (K.taken sink.new) (K.faults sink.new) []) result.network result.outcome }
 {
     match read_script(alloc, plan, script) {
         Ok(lines) => finish_lines(alloc, plan, lines, sink),

@@ -1,8 +1,6 @@
 -- The lines so far were read, and what they name stands in the plan.
 use Rattle.std.proofs.Common.{◌≡◌, ◌+◌, drop}
 use Rattle.std.specs.List.{All}
-use Rattle.net_base.specs.declared.plan.Plan.{Plan}
-use Rattle.plan_names.specs.Planned.{names_of}
 use Rattle.script_text.specs.Reading.{with_front_lines}
 use Rattle.script_words.specs.Reading.{lines_said}
 use Rattle.discovery_script.specs.Lines.{discovery_line_of}
@@ -11,6 +9,6 @@ use Rattle.discovery_script.proofs.script.read_with.Given as goal
 
 abbrev pub invariant-loop-place : goal.invariant-loop-place
 invariant-loop-place l = record {
-  read : with_front_lines l.read (lines_said (discovery_line_of l.names) (l.place + 1) (drop l.place l.line-items)) ≡ lines_said (discovery_line_of l.names) 1 l.line-items;
-  planned : (plan : Plan) → l.names ≡ names_of plan → All (IsDiscoveryLineOf plan) l.read;
+  read : with_front_lines l.read (lines_said (discovery_line_of l.plan) (l.place + 1) (drop l.place l.line-items)) ≡ lines_said (discovery_line_of l.plan) 1 l.line-items;
+  planned : All (IsDiscoveryLineOf l.plan) l.read;
 }
