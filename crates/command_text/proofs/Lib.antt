@@ -1,2 +1,2 @@
 pub mod FrameLemmas
-pub mod WordLemmas
+pub mod PlannedLemmas

@@ -1,7 +1,7 @@
 -- The words of a command, parted by one space and counted from 1.
-use Rattle.std.specs.Prelude.{◌==◌, ◌-◌, not, nat_lt, codes, zero, suc, ℕ, Bool, true, false, List, length, Option, Some, None, option_and_then, is_some, Result, if◌then◌else◌}
-use Rattle.std.specs.List.{position_or_len, before_first, after_first}
-use Rattle.std.specs.Str.{bytes_eq}
+use Rattle.std.specs.Prelude.{◌==◌, ◌-◌, not, nat_lt, ℕ, Bool, List, length, slice_get, Option, Some, None, option_and_then, is_some, Result, if◌then◌else◌}
+use Rattle.octet_text.specs.Cut.{before_mark}
+use Rattle.script_text.specs.Script.{space, words_of}
 use Rattle.command_text.specs.declared.scenario_fault.ScenarioFault.{ScenarioFault}
 use Rattle.command_text.specs.declared.scenario_fault.ScenarioFault.TheVariants.{BadWord}
 use Rattle.command_text.specs.Reading.{checked, found}
@@ -9,22 +9,13 @@ use Rattle.command_text.specs.Reading.{checked, found}
 abbrev pub is_space : ℕ → Bool
 is_space octet = octet == 32
 
--- what follows the first space
-abbrev pub after_word : List ℕ → Option (List ℕ)
-after_word text = if nat_lt (position_or_len is_space text) (length text) then Some (after_first is_space text) else None
-
 -- the first word
 abbrev pub first_word : List ℕ → List ℕ
-first_word text = before_first is_space text
-
--- the word after so many words
-abbrev pub word_after : ℕ → List ℕ → Option (List ℕ)
-word_after zero text = Some (first_word text)
-word_after (suc n) text = option_and_then (word_after n) (after_word text)
+first_word text = before_mark space text
 
 -- the word of this number
 unfoldable pub word_at : ℕ → List ℕ → Option (List ℕ)
-word_at number text = word_after (number - 1) text
+word_at number text = slice_get (words_of text) (number - 1)
 
 -- what the word of this number says
 abbrev pub said_word : {A : Type 0} → (List ℕ → Option A) → ℕ → ℕ → List ℕ → Result A ScenarioFault
@@ -33,10 +24,6 @@ said_word reader event number text = found (BadWord event number) (option_and_th
 -- no word of this number
 abbrev pub ends_before : ℕ → ℕ → List ℕ → Result Bool ScenarioFault
 ends_before event number text = checked (BadWord event number) (not (is_some (word_at number text)))
-
--- on or off
-abbrev pub switch_of : List ℕ → Option Bool
-switch_of text = if bytes_eq text (codes "on") then Some true else if bytes_eq text (codes "off") then Some false else None
 
 -- a word that is not empty
 abbrev pub some_word : List ℕ → Option (List ℕ)

@@ -4,8 +4,8 @@ ghost use Rattle.command_text.specs.Places.{masked, shown};
 
 use net_base::Text;
 
-// A graphic octet, or a question mark in its place.
-fn mask(octet: u8) -> u8
+/// A graphic octet, or a question mark in its place.
+pub fn mask(octet: u8) -> u8
     ensures { result ≡ masked octet }
 {
     if octet < 0x21 || octet > 0x7E {

@@ -5,6 +5,7 @@
 #![tactic(auto)]
 
 mod command;
+mod command_words;
 mod commands;
 mod event_place;
 mod events;
@@ -13,10 +14,10 @@ mod row_place;
 mod said;
 mod same;
 mod scenario_fault;
-pub mod words;
 
 pub use command::Command;
 pub use commands::{read_commands, read_one};
+pub use key::mask;
 pub use row_place::RowPlace;
 pub use same::is_same;
 pub use scenario_fault::ScenarioFault;

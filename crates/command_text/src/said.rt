@@ -2,14 +2,14 @@
 ghost use Rattle.std.specs.Prelude.{◌≡◌, ◌<◌, ◌≤◌, not, true, is_some, Some, length, option_and_then, option_map, IfOk, IfSome};
 ghost use Rattle.plan_names.specs.{Names.{place_in}, Decimal.{decimal_from}};
 ghost use Rattle.command_text.specs.{Hex.{frame_of}, Reading.{Gives, MapsTo, checked, found}};
-ghost use Rattle.command_text.specs.Words.{said_word, ends_before, first_word, word_after, switch_of, some_word};
+ghost use Rattle.command_text.specs.Words.{said_word, ends_before, first_word, some_word, word_at};
+ghost use Rattle.octet_text.specs.Cut.{behind_mark};
+ghost use Rattle.script_text.specs.Script.{space};
 ghost use Rattle.net_base.specs.plan.Planned.{IsFrame};
 
 use crate::ScenarioFault;
-use crate::same::is_same;
-use crate::words::{cut_octets, word};
 use net_base::{NoMemory, Octets, Word};
-use octet_text::octets_of;
+use octet_text::{cut_at, octets_of};
 use plan_names::{NameIndex, decimal};
 use std::alloc::Global;
 
@@ -21,6 +21,15 @@ pub fn bad_word(event: u32, number: u32) -> ScenarioFault
         event,
         word: number,
     }
+}
+
+/// The word of this number.
+#[tactic(auto, unfolding(crate::specs::Words::word_at))]
+pub fn word(text: &str, number: u32) -> Option<&str>
+    requires { 1 ≤ number }
+    ensures { option_map (λ w. w.now) result ≡ word_at number text.now }
+{
+    script_text::word(text, number as usize - 1)
 }
 
 /// The place that a word names.
@@ -77,33 +86,6 @@ pub fn number_word(
     }
 }
 
-// Whether a word is `on`, where it is `on` or `off`.
-fn switch(word: &str) -> Option<bool>
-    ensures { result ≡ switch_of word.now }
-{
-    if is_same(word, "on") {
-        Some(true)
-    } else if is_same(word, "off") {
-        Some(false)
-    } else {
-        None
-    }
-}
-
-/// Whether a word is `on`; it is `on` or `off`.
-pub fn switch_word(event: u32, number: u32, text: &str) -> Result<bool, ScenarioFault>
-    requires { 1 ≤ number }
-    ensures { result ≡ said_word switch_of event number text.now }
-{
-    match word(text, number) {
-        Some(word) => match switch(word) {
-            Some(on) => Ok(on),
-            None => Err(bad_word(event, number)),
-        },
-        None => Err(bad_word(event, number)),
-    }
-}
-
 // The octets of a frame, where they are 1 to 9216.
 fn frame(alloc: Global, capacity: usize, digits: &[u8]) -> Result<Option<Octets>, NoMemory>
     ensures value { IfOk result (λ octets. octets ≡ frame_of digits.now) }
@@ -128,7 +110,7 @@ fn first_frame(alloc: Global, capacity: usize, octets: &[u8]) -> Result<Option<O
     match frame(alloc, capacity, octets)? {
         Some(bytes) => Ok(Some(bytes)),
         None => {
-            let (word, _) = cut_octets(octets);
+            let (word, _) = cut_at(b' ', octets);
             frame(alloc, capacity, word)
         }
     }
@@ -142,9 +124,9 @@ pub fn frame_octets(
     number: u32,
     rest: Option<&[u8]>,
 ) -> Result<Octets, ScenarioFault>
-    ensures exact { Gives result (found (ScenarioFault.BadWord event number) (option_and_then frame_of (option_and_then (word_after 0) (option_map (λ r. r.now) rest.entry)))) }
+    ensures exact { Gives result (found (ScenarioFault.BadWord event number) (option_and_then frame_of (option_map first_word (option_map (λ r. r.now) rest.entry)))) }
     ensures sized { IfOk result IsFrame }
-    ensures read { IfOk result (λ octets. option_and_then frame_of (option_and_then (word_after 0) (option_map (λ r. r.now) rest.entry)) ≡ Some octets) }
+    ensures read { IfOk result (λ octets. option_and_then frame_of (option_map first_word (option_map (λ r. r.now) rest.entry)) ≡ Some octets) }
 {
     match rest {
         Some(rest) => match first_frame(alloc, capacity, rest)? {
@@ -158,9 +140,9 @@ pub fn frame_octets(
 /// Whether a word stands behind the one that writes these octets, two digits for each.
 #[tactic(auto, using(crate::proofs::FrameLemmas::more_behind))]
 pub fn goes_on(rest: Option<&[u8]>, bytes: &Octets) -> bool
-    requires read { option_and_then frame_of (option_and_then (word_after 0) (option_map (λ r. r.now) rest)) ≡ Some bytes.now }
+    requires read { option_and_then frame_of (option_map first_word (option_map (λ r. r.now) rest)) ≡ Some bytes.now }
     requires sized { IsFrame bytes.now }
-    ensures { result ≡ is_some (option_and_then (word_after 1) (option_map (λ r. r.now) rest.entry)) }
+    ensures { result ≡ is_some (option_and_then (behind_mark space) (option_map (λ r. r.now) rest.entry)) }
 {
     match rest {
         Some(rest) => rest.len() > 2 * bytes.len(),

@@ -1,13 +1,25 @@
 -- What may stand behind `do`: a command that a script may say, or a word that is wrong, the fifth one at most.
-use Rattle.std.proofs.Common.{◌≡◌, ◌≤◌, ◌||◌, ℕ, Bool, true, false, List, Option, Some, None, option_and_then, Result, Ok, Err, if◌then◌else◌, not, is_some, codes, subst, arith}
+use Rattle.std.proofs.Common.{◌≡◌, ◌≤◌, ◌||◌, ◌⊎◌, ◌∙◌, ℕ, Bool, true, false, List, ◌∷◌, drop, Option, Some, None, option_and_then, Result, Ok, Err, if◌then◌else◌, not, is_some, codes, inl, inr, refl, sym, ap, subst, arith}
 use Rattle.std.specs.Str.{bytes_eq}
+use Rattle.net_base.specs.declared.plan.Plan.{Plan}
 use Rattle.net_base.specs.declared.trace.event.Event.{Event}
+use Rattle.plan_names.specs.Decimal.{decimal_from}
+use Rattle.plan_names.specs.Names.{place_in}
+use Rattle.plan_names.specs.Planned.{names_of}
+use Rattle.script_text.specs.Script.{words_of}
+use Rattle.script_text.proofs.PartLemmas.{words_begin}
+use Rattle.line_shapes.specs.Laws.{have_kinds}
+use Rattle.line_shapes.specs.Shapes.{AreShort, first_said, form_at, line_said}
+use Rattle.line_shapes.proofs.AgainLemmas.{again}
+use Rattle.line_shapes.proofs.StopLemmas.{StopsBy, line_early}
+use Rattle.line_shapes.proofs.TableLemmas.{AllBelow, are_kinds, below_all, line_within}
+use Rattle.event_rows.specs.Rows.{event_forms, event_made}
 use Rattle.command_text.specs.declared.command.Command.{Command}
 use Rattle.command_text.specs.declared.command.Command.TheVariants.{One}
-use Rattle.plan_names.specs.declared.plan_names.PlanNames.{PlanNames}
 use Rattle.command_text.specs.declared.scenario_fault.ScenarioFault.{ScenarioFault}
 use Rattle.command_text.specs.declared.scenario_fault.ScenarioFault.TheVariants.{BadWord}
-use Rattle.command_text.specs.Events.{command_in, command_of, deliver_in, lose_in, restart_in, frame_event_in, packet_in, wire_switch_in, circuit_switch_in, status_in, priority_event_in, ping_in, repeats_in, one, many_of, part_command, packet_command}
+use Rattle.command_text.specs.Events.{command_in, command_of, event_by, frame_event_in, one, repeats_in, row_event_in}
+use Rattle.command_text.specs.Hex.{frame_of}
 use Rattle.command_text.specs.Reading.{◌>>=◌, checked, found}
 use Rattle.command_text.specs.Words.{ends_before, first_word, said_word, word_at}
 use Rattle.discovery_script.specs.Lines.{is_barred}
@@ -58,104 +70,59 @@ ends_fine event number text early = checked_fine event number (not (is_some (wor
 one_fine : (read : Result Event ScenarioFault) → Fine IsSaid read → Fine IsScripted (one read)
 one_fine read fine = then_fine IsSaid IsScripted read (λ event. Ok (One event)) fine (λ event is. is)
 
--- a command without a word too many; one of two more words, or three, or four
-module _ {B : Type 0} (Q : B → Type 0) (event : ℕ) (text : List ℕ) where
-  of_two : {X : Type 0} (first : List ℕ → Option X) (make : X → Result B ScenarioFault) → ((x : X) → Fine Q (make x))
-      → Fine Q (said_word first event 2 text >>= (λ x. ends_before event 3 text >>= (λ e. make x)))
-  of_two first make is = then_fine Any Q _ _ (said_fine first event 2 text (omega arith)) (λ x a. then_fine Any Q _ _ (ends_fine event 3 text (omega arith)) (λ e b. is x))
+-- what a row makes may be said, or its word is barred
+abbrev MayBeSaid : ℕ → Type 0
+MayBeSaid row = (v : List ℕ) → IsSaid (event_made row v) ⊎ (is_barred (form_at event_forms row).word ≡ true)
 
-  of_three : {X Y : Type 0} (first : List ℕ → Option X) (next : List ℕ → Option Y) (make : X → Y → Result B ScenarioFault) → ((x : X) (y : Y) → Fine Q (make x y))
-      → Fine Q (said_word first event 2 text >>= (λ x. said_word next event 3 text >>= (λ y. ends_before event 4 text >>= (λ e. make x y))))
-  of_three first next make is =
-      then_fine Any Q _ _ (said_fine first event 2 text (omega arith))
-      (λ x a. then_fine Any Q _ _ (said_fine next event 3 text (omega arith)) (λ y b. then_fine Any Q _ _ (ends_fine event 4 text (omega arith)) (λ e c. is x y)))
+may_be_said : AllBelow MayBeSaid 13
+may_be_said = (
+  ((((((((((((tt, λ v. inl tt), λ v. inl tt), λ v. inl tt), λ v. inl tt), λ v. inr refl), λ v. inl tt), λ v. inl tt), λ v. inr refl), λ v. inl tt), λ v. inl tt), λ v. inl tt), λ v. inl tt),
+  λ v. inl tt,
+)
 
-  of_four : {X Y Z : Type 0} (first : List ℕ → Option X) (next : List ℕ → Option Y) (last : List ℕ → Option Z) (make : X → Y → Z → Result B ScenarioFault)
-      → ((x : X) (y : Y) (z : Z) → Fine Q (make x y z))
-      → Fine Q (said_word first event 2 text >>= (λ x. said_word next event 3 text >>= (λ y. said_word last event 4 text >>= (λ z. ends_before event 5 text >>= (λ e. make x y z)))))
-  of_four first next last make is =
-      then_fine Any Q _ _ (said_fine first event 2 text (omega arith))
-      (λ x a. then_fine Any Q _ _ (said_fine next event 3 text (omega arith))
-      (λ y b. then_fine Any Q _ _ (said_fine last event 4 text (omega arith)) (λ z c. then_fine Any Q _ _ (ends_fine event 5 text (omega arith)) (λ e d. is x y z))))
+are_short : AreShort event_forms
+are_short = (
+  omega arith,
+  (omega arith, (omega arith, (omega arith, (omega arith, (omega arith, (omega arith, (omega arith, (omega arith, (omega arith, (omega arith, (omega arith, (omega arith, tt)))))))))))),
+)
 
-module _ (names : PlanNames) (event : ℕ) (text : List ℕ) where
-  deliver_fine : Fine IsSaid (deliver_in names event text)
-  unfolding deliver_in
-  deliver_fine = of_four IsSaid event text _ _ _ _ (λ x y z. tt)
+true_not_false : ◌≡◌ {A = Bool} true false → ⊥
+true_not_false e = cc e
 
-  lose_fine : Fine IsSaid (lose_in names event text)
-  unfolding lose_in
-  lose_fine = of_three IsSaid event text _ _ _ (λ x y. tt)
-
-  restart_fine : Fine IsSaid (restart_in names event text)
-  unfolding restart_in
-  restart_fine = of_two IsSaid event text _ _ (λ x. tt)
-
-  frame_fine : Fine IsSaid (frame_event_in names event text)
+module _ (plan : Plan) (event : ℕ) (text : List ℕ) where
+  frame_fine : Fine IsSaid (frame_event_in (names_of plan) event text)
   unfolding frame_event_in
-  frame_fine = of_three IsSaid event text _ _ _ (λ x y. tt)
-
-  packet_fine : Fine Any (packet_in event text)
-  unfolding packet_in
-  packet_fine = of_two Any event text _ _ (λ x. tt)
-
-  wire_fine : Fine IsSaid (wire_switch_in names event text)
-  unfolding wire_switch_in
-  wire_fine = of_four IsSaid event text _ _ _ _ (λ x y z. tt)
-
-  circuit_fine : Fine IsSaid (circuit_switch_in names event text)
-  unfolding circuit_switch_in
-  circuit_fine = of_three IsSaid event text _ _ _ (λ x y. tt)
-
-  status_fine : Fine IsSaid (status_in names event text)
-  unfolding status_in
-  status_fine = of_four IsSaid event text _ _ _ _ (λ x y z. tt)
-
-  priority_fine : Fine IsSaid (priority_event_in names event text)
-  unfolding priority_event_in
-  priority_fine = of_four IsSaid event text _ _ _ _ (λ x y z. tt)
-
-  ping_fine : Fine IsSaid (ping_in names event text)
-  unfolding ping_in
-  ping_fine = of_three IsSaid event text _ _ _ (λ x y. tt)
+  frame_fine =
+      then_fine Any IsSaid _ _ (said_fine (place_in (names_of plan).circuits) event 2 text (omega arith))
+      (λ x a. then_fine Any IsSaid _ _ (said_fine frame_of event 3 text (omega arith)) (λ y b. then_fine Any IsSaid _ _ (ends_fine event 4 text (omega arith)) (λ e c. tt)))
 
   repeats_fine : Fine Any (repeats_in event text)
   unfolding repeats_in
-  repeats_fine = of_two Any event text _ _ (λ x. tt)
+  repeats_fine = then_fine Any Any _ _ (said_fine (decimal_from 1 10000) event 2 text (omega arith)) (λ x a. then_fine Any Any _ _ (ends_fine event 3 text (omega arith)) (λ e b. tt))
 
-  many_fine : (plays : ℕ) (word : List ℕ) → bytes_eq word (codes "play") ≡ false → Fine IsScripted (many_of names event plays word text)
-  unfolding many_of
-  many_fine plays word no_play =
-      if_fine IsScripted (bytes_eq word (codes "settle")) _ _ (then_fine Any IsScripted _ _ repeats_fine (λ count is. tt))
-      (if_fine IsScripted (bytes_eq word (codes "flow")) _ _ (then_fine Any IsScripted _ _ repeats_fine (λ count is. tt))
-      (else_fine IsScripted (bytes_eq word (codes "play")) _ _ no_play (omega arith)))
+  -- an event by its row
+  row_fine : is_barred (first_word text) ≡ false → Fine IsSaid (row_event_in plan event text)
+  unfolding row_event_in have_kinds
+  row_fine allowed = of_read (line_said plan event_forms (words_of text)) refl (line_early plan event_forms (words_of text) are_short)
+    where
+      of_read : (r : Result (ℕ × List ℕ) ℕ) → line_said plan event_forms (words_of text) ≡ r → StopsBy 5 r → Fine IsSaid (event_by event r)
+      of_read (Ok read) is early = elim (below_all MayBeSaid 13 read.0 may_be_said (line_within plan event_forms (words_of text) read is) read.1) [
+        | inl said ↦ said
+        | inr barred ↦
+            let begins : line_said plan event_forms (first_word text ∷ drop 1 (words_of text)) ≡ Ok read = ap (line_said plan event_forms) (sym (words_begin text)) ∙ is in
+            let same = ap first_said (again plan event_forms (first_word text) (drop 1 (words_of text)) read (are_kinds event_forms read.0 refl) begins) in
+            absurd (true_not_false (sym barred ∙ ap is_barred same ∙ allowed))
+      ]
+      of_read (Err word) is early = early
 
-  part_fine : (plays : ℕ) (word : List ℕ) → bytes_eq word (codes "play") ≡ false → Fine IsScripted (part_command names event plays word text)
-  unfolding part_command
-  part_fine plays word no_play =
-      if_fine IsScripted (bytes_eq word (codes "wire")) _ _ (one_fine _ wire_fine)
-      (if_fine IsScripted (bytes_eq word (codes "circuit")) _ _ (one_fine _ circuit_fine)
-      (if_fine IsScripted (bytes_eq word (codes "status")) _ _ (one_fine _ status_fine)
-      (if_fine IsScripted (bytes_eq word (codes "priority")) _ _ (one_fine _ priority_fine)
-      (if_fine IsScripted (bytes_eq word (codes "ping")) _ _ (one_fine _ ping_fine) (many_fine plays word no_play)))))
-
-  packets_fine : (plays : ℕ) (word : List ℕ) → bytes_eq word (codes "play") ≡ false → Fine IsScripted (packet_command names event plays word text)
-  unfolding packet_command
-  packets_fine plays word no_play =
-      if_fine IsScripted (bytes_eq word (codes "frame")) _ _ (one_fine _ frame_fine)
-      (if_fine IsScripted (bytes_eq word (codes "arrive")) _ _ (then_fine Any IsScripted _ _ packet_fine (λ packet is. tt))
-      (if_fine IsScripted (bytes_eq word (codes "drop")) _ _ (then_fine Any IsScripted _ _ packet_fine (λ packet is. tt))
-      (if_fine IsScripted (bytes_eq word (codes "again")) _ _ (then_fine Any IsScripted _ _ packet_fine (λ packet is. tt)) (part_fine plays word no_play))))
-
-  command_fine : (plays : ℕ) (word : List ℕ) → bytes_eq word (codes "connect") ≡ false → bytes_eq word (codes "tick") ≡ false → bytes_eq word (codes "play") ≡ false
-      → Fine IsScripted (command_of names event plays word text)
+  command_fine : (word : List ℕ) → is_barred (first_word text) ≡ false → bytes_eq word (codes "tick") ≡ false → bytes_eq word (codes "play") ≡ false → Fine IsScripted (command_of plan event 0 word text)
   unfolding command_of
-  command_fine plays word no_connect no_tick no_play =
-      else_fine IsScripted (bytes_eq word (codes "connect")) _ _ no_connect
-      (if_fine IsScripted (bytes_eq word (codes "deliver")) _ _ (one_fine _ deliver_fine)
-      (if_fine IsScripted (bytes_eq word (codes "lose")) _ _ (one_fine _ lose_fine)
-      (if_fine IsScripted (bytes_eq word (codes "restart")) _ _ (one_fine _ restart_fine)
-      (else_fine IsScripted (bytes_eq word (codes "tick")) _ _ no_tick (packets_fine plays word no_play)))))
+  command_fine word allowed no_tick no_play =
+      if_fine IsScripted (bytes_eq word (codes "frame")) _ _ (one_fine _ frame_fine)
+      (else_fine IsScripted (bytes_eq word (codes "tick")) _ _ no_tick
+      (if_fine IsScripted (bytes_eq word (codes "settle")) _ _ (then_fine Any IsScripted _ _ repeats_fine (λ count is. tt))
+      (if_fine IsScripted (bytes_eq word (codes "flow")) _ _ (then_fine Any IsScripted _ _ repeats_fine (λ count is. tt))
+      (else_fine IsScripted (bytes_eq word (codes "play")) _ _ no_play (one_fine _ (row_fine allowed))))))
 
 neither : (a b c : Bool) → (a || b) || c ≡ false → (a ≡ false) × ((b ≡ false) × (c ≡ false))
 neither true b c e = absurd (cc)
@@ -163,14 +130,13 @@ neither false true c e = absurd (cc)
 neither false false true e = absurd (cc)
 neither false false false e = (λ i. false, (λ i. false, λ i. false))
 
-said_fine_of : (names : PlanNames) (event : ℕ) (text : List ℕ) → is_barred (first_word text) ≡ false → Fine IsScripted (command_in names event 0 text)
-said_fine_of names event text allowed =
-    let word : List ℕ = first_word text in
-    let no = neither (bytes_eq word (codes "connect")) (bytes_eq word (codes "tick")) (bytes_eq word (codes "play")) allowed in
-    command_fine names event text 0 word no.0 no.1.0 no.1.1
+said_fine_of : (plan : Plan) (event : ℕ) (text : List ℕ) → is_barred (first_word text) ≡ false → Fine IsScripted (command_in plan event 0 text)
+said_fine_of plan event text allowed =
+    let no = neither (bytes_eq (first_word text) (codes "connect")) (bytes_eq (first_word text) (codes "tick")) (bytes_eq (first_word text) (codes "play")) allowed in
+    command_fine plan event text (first_word text) allowed no.1.0 no.1.1
 
-pub wrong_early : (names : PlanNames) (event at word : ℕ) (text : List ℕ) → is_barred (first_word text) ≡ false → command_in names event 0 text ≡ Err (BadWord at word) → word ≤ 5
-wrong_early names event at word text allowed e = subst (Fine IsScripted) e (said_fine_of names event text allowed)
+pub wrong_early : (plan : Plan) (event at word : ℕ) (text : List ℕ) → is_barred (first_word text) ≡ false → command_in plan event 0 text ≡ Err (BadWord at word) → word ≤ 5
+wrong_early plan event at word text allowed e = subst (Fine IsScripted) e (said_fine_of plan event text allowed)
 
-pub is_scripted : (names : PlanNames) (event : ℕ) (text : List ℕ) (command : Command) → is_barred (first_word text) ≡ false → command_in names event 0 text ≡ Ok command → IsScripted command
-is_scripted names event text command allowed e = subst (Fine IsScripted) e (said_fine_of names event text allowed)
+pub is_scripted : (plan : Plan) (event : ℕ) (text : List ℕ) (command : Command) → is_barred (first_word text) ≡ false → command_in plan event 0 text ≡ Ok command → IsScripted command
+is_scripted plan event text command allowed e = subst (Fine IsScripted) e (said_fine_of plan event text allowed)

@@ -2,9 +2,7 @@
 use Rattle.std.specs.Prelude.{◌+◌, ◌==◌, ◌||◌, codes, drop, ℕ, Bool, List, [], ◌∷◌, Result, Ok, Err, if◌then◌else◌}
 use Rattle.std.specs.Str.{bytes_eq}
 use Rattle.net_base.specs.declared.plan.Plan.{Plan}
-use Rattle.plan_names.specs.Planned.{names_of}
 use Rattle.command_text.specs.declared.command.Command.{Command}
-use Rattle.plan_names.specs.declared.plan_names.PlanNames.{PlanNames}
 use Rattle.command_text.specs.declared.scenario_fault.ScenarioFault.{ScenarioFault}
 use Rattle.command_text.specs.declared.scenario_fault.ScenarioFault.TheVariants.{BadWord}
 use Rattle.command_text.specs.Events.{command_in}
@@ -49,19 +47,19 @@ command_at number (Err (BadWord event word)) = Err (Bad number (word + 1))
 command_at number (Err fault) = Err (Bad number 2)
 
 -- a command that stands behind `do`, unless it is barred there
-abbrev pub said_behind : PlanNames → ℕ → List ℕ → Result ScriptLine ScriptFault
-said_behind names number text = if is_barred (first_word text) then Err (Bad number 2) else command_at number (command_in names 1 0 text)
+abbrev pub said_behind : Plan → ℕ → List ℕ → Result ScriptLine ScriptFault
+said_behind plan number text = if is_barred (first_word text) then Err (Bad number 2) else command_at number (command_in plan 1 0 text)
 
 -- the line `do`
-unfoldable pub do_in : PlanNames → ℕ → List (List ℕ) → Result ScriptLine ScriptFault
-do_in names number words = said_behind names number (spaced_words (drop 1 words))
+unfoldable pub do_in : Plan → ℕ → List (List ℕ) → Result ScriptLine ScriptFault
+do_in plan number words = said_behind plan number (spaced_words (drop 1 words))
 
 -- ---- any line
 
 -- a line by its words
 unfoldable pub discovery_line_of : Plan → ℕ → List (List ℕ) → Result ScriptLine ScriptFault
 discovery_line_of plan number words =
-    if bytes_eq (first_of words) (codes "do") then do_in (names_of plan) number words else made_at discovery_made number (line_said plan discovery_forms words)
+    if bytes_eq (first_of words) (codes "do") then do_in plan number words else made_at discovery_made number (line_said plan discovery_forms words)
 
 -- the lines that octets are, or the first place that is wrong
 unfoldable pub discovery_lines_in : Plan → List ℕ → Result (List ScriptLine) ScriptFault

@@ -1,19 +1,18 @@
 //! The lines of a script.
 ghost use Rattle.std.specs.Prelude.{◌≡◌, ◌<◌, map, IfOk};
-ghost use Rattle.net_base.specs.declared.plan.Plan.{Plan};
 ghost use Rattle.plan_names.specs.Planned.{names_of};
 ghost use Rattle.discovery_script.specs.Planned.{IsDiscoveryLineOf};
-ghost use Rattle.discovery_script.specs.Lines.{discovery_forms, discovery_line_of, discovery_made, do_in, is_barred, said_behind};
+ghost use Rattle.discovery_script.specs.Lines.{discovery_forms, discovery_line_of, discovery_made, do_in, is_barred};
 ghost use Rattle.line_shapes.specs.{Script.{made_at}, Shapes.{AreSmall, AreValuesOf, form_at, form_of, line_said}};
 ghost use Rattle.script_text.specs.Reading.{GivesScript};
 
 use crate::script_line::ScriptLine;
-use command_text::{is_same, words};
+use command_text::is_same;
 use line_shapes::Kind::{Edge, Number};
 use line_shapes::{Shape, Values, read_shaped};
 use net_base::Plan;
 use scenario_text::{WordFault, read_command_with};
-use script_text::ScriptFault;
+use script_text::{ScriptFault, first};
 use script_words::NumberedLine;
 use std::alloc::Global;
 
@@ -73,33 +72,26 @@ fn is_barred_word(word: &str) -> bool
     (is_same(word, "connect") || is_same(word, "tick")) || is_same(word, "play")
 }
 
-// The command that a text is, where a script may say it.
-#[tactic(auto, using(crate::proofs::CommandLemmas::wrong_early, crate::proofs::CommandLemmas::is_scripted))]
-fn said_command(
+// `do WORDS`, a command of a scenario but `connect`, `tick` and `play`.
+#[tactic(auto, unfolding(crate::specs::Lines::do_in), using(crate::proofs::CommandLemmas::wrong_early, crate::proofs::CommandLemmas::is_scripted))]
+fn command(
     alloc: Global,
+    plan: &Plan,
     line: NumberedLine<'_, '_>,
-    text: &str,
 ) -> Result<ScriptLine, ScriptFault>
-    ensures exact { GivesScript result (said_behind line.entry.names.now line.entry.number text.now) }
-    ensures planned { (plan : Plan) → line.entry.names.now ≡ names_of plan → IfOk result (IsDiscoveryLineOf plan) }
+    requires names { line.names.now ≡ names_of plan.now }
+    ensures exact { GivesScript result (do_in plan.now line.entry.number line.entry.line.now) }
+    ensures planned { IfOk result (IsDiscoveryLineOf plan.now) }
 {
-    if is_barred_word(words::first(text)) {
+    let text = line.line.rest();
+    if is_barred_word(first(text)) {
         return Err(line.bad(2));
     }
-    match read_command_with(alloc, line.names, text) {
+    match read_command_with(alloc, plan, line.names, text) {
         Ok(command) => Ok(ScriptLine::Do(command)),
         Err(WordFault::Bad(word)) => Err(line.bad(word + 1)),
         Err(WordFault::NoMemory) => Err(ScriptFault::NoMemory),
     }
-}
-
-// `do WORDS`, a command of a scenario but `connect`, `tick` and `play`.
-#[tactic(auto, unfolding(crate::specs::Lines::do_in))]
-fn command(alloc: Global, line: NumberedLine<'_, '_>) -> Result<ScriptLine, ScriptFault>
-    ensures exact { GivesScript result (do_in line.entry.names.now line.entry.number line.entry.line.now) }
-    ensures planned { (plan : Plan) → line.entry.names.now ≡ names_of plan → IfOk result (IsDiscoveryLineOf plan) }
-{
-    said_command(alloc, line, line.line.rest())
 }
 
 /// The line that words are. `Bad` comes exactly at the first word that fits no line: one that is missing stands at its number, one too
@@ -115,7 +107,7 @@ pub fn read_line(
     ensures planned { IfOk result (IsDiscoveryLineOf plan.now) }
 {
     if is_same(line.first(), "do") {
-        command(alloc, line)
+        command(alloc, plan, line)
     } else {
         row(plan, line)
     }

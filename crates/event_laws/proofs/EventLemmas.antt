@@ -1,180 +1,193 @@
 -- Each event is read from its words.
-use Rattle.std.proofs.Common.{◌≡◌, ◌<◌, ◌-◌, ◌^◌, ◌∙◌, not, ℕ, true, List, [], ◌∷◌, length, Some, Ok, refl, ap, arith}
+use Rattle.std.proofs.Common.{◌≡◌, ◌<◌, ◌≤◌, ◌∙◌, ◌==◌, ◌&&◌, ◌||◌, not, ℕ, Bool, true, false, List, [], ◌∷◌, Ok, inl, inr, refl, sym, ap, subst, arith}
 use Rattle.std.specs.Prelude.{codes}
-use Rattle.std.specs.Fmt.{decimal}
 use Rattle.std.specs.List.{list_all}
-use Rattle.std.proofs.lemmas.Bool.{not-true}
+use Rattle.std.specs.Str.{bytes_eq}
+use Rattle.std.proofs.lemmas.Bool.{and_parts, cases_Bool, eqb-true, not-true}
 use Rattle.net_base.specs.declared.plan.Plan.{Plan}
 use Rattle.net_base.specs.declared.plan.places.CircuitId.{CircuitId}
-use Rattle.net_base.specs.declared.plan.places.EdgeId.{EdgeId}
-use Rattle.net_base.specs.declared.plan.places.WireId.{WireId}
+use Rattle.net_base.specs.declared.trace.event.Event.{Event}
 use Rattle.net_base.specs.declared.trace.event.Event.TheVariants.{Connect, Deliver, Lose, Restart, Tick, Frame, Arrive, Discard, Again, Wire, Circuit, Status, Priority, Ping}
-use Rattle.net_base.specs.plan.NameFaults.{edge_names, circuit_names, wire_names}
-use Rattle.report_text.specs.Words.{edge_name, circuit_name, wire_name, switch_name}
-use Rattle.command_text.specs.declared.command.Command.{Command}
-use Rattle.command_text.specs.declared.command.Command.TheVariants.{One}
-use Rattle.plan_names.specs.declared.plan_names.PlanNames.{PlanNames}
-use Rattle.plan_names.specs.Planned.{HasNames, names_of}
-use Rattle.command_text.specs.Events.{connect_in, deliver_in, lose_in, restart_in, frame_event_in, packet_in, wire_switch_in, circuit_switch_in, status_in, priority_event_in, ping_in, many_of, part_command, packet_command, command_of, command_in}
-use Rattle.command_text.specs.Hex.{frame_of}
+use Rattle.net_base.specs.plan.NameFaults.{circuit_names}
+use Rattle.net_base.specs.plan.Planned.{IsEventOf}
 use Rattle.plan_names.specs.Names.{place_in}
-use Rattle.plan_names.specs.Decimal.{decimal_from}
-use Rattle.command_text.specs.Words.{is_space, switch_of}
+use Rattle.plan_names.specs.Planned.{HasNames}
+use Rattle.plan_names.proofs.BelowLemmas.{all_below, below_at}
+use Rattle.report_text.specs.Named.{IsNamedEvent}
+use Rattle.report_text.specs.Words.{circuit_name, event_words}
 use Rattle.text_pieces.specs.Pieces.{hex}
-use Rattle.event_laws.specs.Law.{joined_words, ReadsWhatIsWritten}
-use Rattle.event_laws.proofs.WordLemmas.{IsWhole, AreWhole, first_of, word_is, said_is, ends_is}
-use Rattle.plan_names.proofs.DecimalLemmas.{number_said}
+use Rattle.command_text.specs.Words.{word_at}
+use Rattle.script_text.specs.Parts.{parted_by}
+use Rattle.script_text.specs.Script.{is_graphic, spaced_words, words_of}
+use Rattle.script_text.proofs.PartLemmas.{AreWhole, words_again}
+use Rattle.line_shapes.specs.Laws.{have_kinds, have_words}
+use Rattle.line_shapes.specs.Shapes.{AreValuesOf, form_at, line_said, nth_value, row_words, value_words}
+use Rattle.line_shapes.proofs.LawLemmas.{reads as row_reads}
 use Rattle.line_shapes.proofs.NameLemmas.{row_said}
-use Rattle.event_laws.proofs.ValueLemmas.{whole_by, decimal_whole, octets_whole, frame_said, switch_said, switch_whole, row_whole}
+use Rattle.line_shapes.proofs.TableLemmas.{AllBelow, IsRow, are_kinds, below_all, words_differ}
+use Rattle.event_rows.specs.Rows.{event_forms, event_made}
+use Rattle.event_rows.proofs.RowLemmas.{event_row}
+use Rattle.command_text.specs.declared.command.Command.TheVariants.{One}
+use Rattle.command_text.specs.Events.{command_in, command_of, event_by, frame_event_in, one, row_event_in}
+use Rattle.command_text.specs.Hex.{frame_of}
+use Rattle.event_laws.specs.Law.{IsEventInRange, IsPacket, ReadsWhatIsWritten}
+use Rattle.event_laws.proofs.ReadLemmas.{by_word, ends_is, said_is}
+use Rattle.event_laws.proofs.ValueLemmas.{AreGraphic, IsGraphic, frame_said, octets_graphic, row_graphic, values_graphic, whole_words}
 
-edge_said : (plan : Plan) (edge : EdgeId) → HasNames plan → edge.0 < length plan.edges → place_in (edge_names plan.edges) (edge_name plan edge) ≡ Some edge.0
-edge_said plan edge names lt = row_said (λ row. row.name) plan.edges edge.0 names.edges lt
+-- an event that a scenario can write is one of those that have a row, or a frame
+named_of : (plan : Plan) (x : Event) → IsEventOf plan x → IsEventInRange x → IsNamedEvent plan x
+named_of plan (Connect from to) of in_ = (of.0, of.1)
+named_of plan (Deliver from to count) of in_ = (of.0, (of.1, in_))
+named_of plan (Lose edge peer) of in_ = (of.0, of.1)
+named_of plan (Restart edge) of in_ = of
+named_of plan Tick of in_ = tt
+named_of plan (Frame circuit octets) of in_ = (of.0, (in_.each, of.1))
+named_of plan (Arrive packet) of in_ = (in_.0, omega (arith, in_.1))
+named_of plan (Discard packet) of in_ = (in_.0, omega (arith, in_.1))
+named_of plan (Again packet) of in_ = (in_.0, omega (arith, in_.1))
+named_of plan (Wire edge wire on) of in_ = (of.0, of.1)
+named_of plan (Circuit circuit on) of in_ = of
+named_of plan (Status edge wire bits) of in_ = (of.0, (of.1, (omega arith, of.2)))
+named_of plan (Priority edge wire priority) of in_ = (of.0, (of.1, (omega arith, in_)))
+named_of plan (Ping edge wire) of in_ = (of.0, of.1)
 
-edge_whole : (plan : Plan) (edge : EdgeId) → HasNames plan → edge.0 < length plan.edges → IsWhole (edge_name plan edge)
-edge_whole plan edge names lt = row_whole (λ row. row.name) plan.edges edge.0 names.edges lt
+-- the first word of a row is that of no other command, but for `tick`
+abbrev is_plain : List ℕ → Bool
+is_plain word =
+    not (bytes_eq word (codes "frame"))
+    && (not (bytes_eq word (codes "tick")) && (not (bytes_eq word (codes "settle")) && (not (bytes_eq word (codes "flow")) && not (bytes_eq word (codes "play")))))
 
-circuit_said : (plan : Plan) (circuit : CircuitId) → HasNames plan → circuit.0 < length plan.circuits → place_in (circuit_names plan.circuits) (circuit_name plan circuit) ≡ Some circuit.0
-circuit_said plan circuit names lt = row_said (λ row. row.name) plan.circuits circuit.0 names.circuits lt
+plain_command : (plan : Plan) (number plays : ℕ) (word text : List ℕ) → is_plain word ≡ true → command_of plan number plays word text ≡ one (row_event_in plan number text)
+unfolding command_of
+plain_command plan number plays word text plain =
+    let frame = and_parts (not (bytes_eq word (codes "frame"))) _ plain in
+    let tick = and_parts (not (bytes_eq word (codes "tick"))) _ frame.1 in
+    let settle = and_parts (not (bytes_eq word (codes "settle"))) _ tick.1 in
+    let flow = and_parts (not (bytes_eq word (codes "flow"))) _ settle.1 in
+    rw (
+      not-true (bytes_eq word (codes "frame")) frame.0,
+      not-true (bytes_eq word (codes "tick")) tick.0,
+      not-true (bytes_eq word (codes "settle")) settle.0,
+      not-true (bytes_eq word (codes "flow")) flow.0,
+      not-true (bytes_eq word (codes "play")) flow.1,
+    ) refl
 
-circuit_whole : (plan : Plan) (circuit : CircuitId) → HasNames plan → circuit.0 < length plan.circuits → IsWhole (circuit_name plan circuit)
-circuit_whole plan circuit names lt = row_whole (λ row. row.name) plan.circuits circuit.0 names.circuits lt
+plain_row : (row : ℕ) → row < 13 → (row == 7) ≡ false → is_plain (form_at event_forms row).word ≡ true
+unfolding all_below
+plain_row row lt other = by (row == 7) other (below_at (λ n. (n == 7) || is_plain (form_at event_forms n).word) 13 row refl lt) where
+  by : (b : Bool) → b ≡ false → b || is_plain (form_at event_forms row).word ≡ true → is_plain (form_at event_forms row).word ≡ true
+  by true other is = absurd (cc)
+  by false other is = is
 
-wire_said : (plan : Plan) (wire : WireId) → HasNames plan → wire.0 < length plan.wires → place_in (wire_names plan.wires) (wire_name plan wire) ≡ Some wire.0
-wire_said plan wire names lt = row_said (λ row. row.name) plan.wires wire.0 names.wires lt
+row_word : (row : ℕ) → row < 13 → IsGraphic (form_at event_forms row).word
+unfolding all_below
+row_word row lt = below_at (λ n. list_all is_graphic (form_at event_forms n).word) 13 row refl lt
 
-wire_whole : (plan : Plan) (wire : WireId) → HasNames plan → wire.0 < length plan.wires → IsWhole (wire_name plan wire)
-wire_whole plan wire names lt = row_whole (λ row. row.name) plan.wires wire.0 names.wires lt
+row_words_graphic : (plan : Plan) (row : ℕ) (values : List ℕ) → HasNames plan → row < 13 → AreValuesOf plan (form_at event_forms row).kinds values
+    → AreGraphic (row_words plan (form_at event_forms row) values)
+unfolding have_kinds
+row_words_graphic plan row values names lt fit = (row_word row lt, values_graphic plan (form_at event_forms row).kinds values names (are_kinds event_forms row refl) fit)
 
--- the first word of a command has no blank
-pub literal : (word : List ℕ) → list_all (λ c. not (is_space c)) word ≡ true → IsWhole word
-literal word e = whole_by (λ c. not (is_space c)) (λ c none. not-true (is_space c) none) word e
+frame_graphic : (plan : Plan) (circuit : CircuitId) (octets : List ℕ) → HasNames plan → IsEventOf plan (Frame circuit octets) → IsEventInRange (Frame circuit octets)
+    → AreGraphic (event_words plan (Frame circuit octets))
+frame_graphic plan circuit octets names of in_ = (refl, (row_graphic (λ row. row.name) plan.circuits circuit.0 names.circuits of.0, (octets_graphic octets in_.each, tt)))
 
--- a command by its first word
-pub by_word : (names : PlanNames) (number plays : ℕ) (word : List ℕ) (words : List (List ℕ)) (command : Command) → IsWhole word
-    → command_of names number plays word (joined_words (word ∷ words)) ≡ Ok command → command_in names number plays (joined_words (word ∷ words)) ≡ Ok command
-by_word names number plays word words command whole reads =
-    ap (λ (first : List ℕ). command_of names number plays first (joined_words (word ∷ words))) (first_of word words whole) ∙ reads
+tick_read : (plan : Plan) (number plays : ℕ) → command_in plan number plays (spaced_words (codes "tick" ∷ [])) ≡ Ok (One Tick)
+unfolding command_of word_at parted_by
+tick_read plan number plays = refl
+
+module _ (plan : Plan) (number plays : ℕ) (names : HasNames plan) where
+  -- an event by its row
+  by_row : (x : Event) → IsRow plan event_forms event_made (event_words plan x) x → command_in plan number plays (spaced_words (event_words plan x)) ≡ Ok (One x)
+  unfolding row_event_in have_kinds have_words
+  by_row x told =
+      ap (λ (l : List (List ℕ)). command_in plan number plays (spaced_words l)) told.written ∙ elim (cases_Bool (told.row == 7)) [
+        | inl tick ↦ of_tick (eqb-true told.row 7 tick)
+        | inr other ↦ of_row other
+      ] ∙ ap (λ (e : Event). Ok (One e)) told.is
+    where
+      of_tick : told.row ≡ 7 → command_in plan number plays (spaced_words (row_words plan (form_at event_forms told.row) told.values)) ≡ Ok (One (event_made told.row told.values))
+      of_tick is =
+          subst (λ (row : ℕ). command_in plan number plays (spaced_words (row_words plan (form_at event_forms row) told.values)) ≡ Ok (One (event_made row told.values))) (sym is)
+          (tick_read plan number plays)
+
+      of_row : (told.row == 7) ≡ false → command_in plan number plays (spaced_words (row_words plan (form_at event_forms told.row) told.values)) ≡ Ok (One (event_made told.row told.values))
+      of_row other =
+          let word : List ℕ = (form_at event_forms told.row).word in
+          let rest : List (List ℕ) = value_words plan (form_at event_forms told.row).kinds told.values in
+          let whole : AreWhole (word ∷ rest) = whole_words (word ∷ rest) (row_words_graphic plan told.row told.values names told.within told.fit) in
+          by_word plan number plays word rest (One (event_made told.row told.values)) whole
+          (plain_command plan number plays word (spaced_words (word ∷ rest)) (plain_row told.row told.within other)
+          ∙ ap (λ (l : List (List ℕ)). one (event_by number (line_said plan event_forms l))) (words_again word rest whole)
+          ∙ ap (λ r. one (event_by number r)) (row_reads plan event_forms told.row told.values names (words_differ event_forms refl) told.within (are_kinds event_forms told.row refl) told.fit))
+
+  frame_read : (circuit : CircuitId) (octets : List ℕ) → IsEventOf plan (Frame circuit octets) → IsEventInRange (Frame circuit octets)
+      → command_in plan number plays (spaced_words (event_words plan (Frame circuit octets))) ≡ Ok (One (Frame circuit octets))
+  unfolding command_of frame_event_in
+  frame_read circuit octets of in_ =
+      let word : List ℕ = codes "frame" in
+      let rest : List (List ℕ) = circuit_name plan circuit ∷ hex octets ∷ [] in
+      let whole : AreWhole (word ∷ rest) = whole_words (word ∷ rest) (frame_graphic plan circuit octets names of in_) in
+      let again : words_of (spaced_words (word ∷ rest)) ≡ word ∷ rest = words_again word rest whole in
+      let said2 = said_is (place_in (circuit_names plan.circuits)) number 2 (spaced_words (word ∷ rest)) (circuit_name plan circuit) (word ∷ rest) circuit.0 again refl
+      (row_said (λ row. row.name) plan.circuits circuit.0 names.circuits of.0) in
+      let said3 = said_is frame_of number 3 (spaced_words (word ∷ rest)) (hex octets) (word ∷ rest) octets again refl (frame_said octets in_) in
+      let ends4 = ends_is number 4 (spaced_words (word ∷ rest)) (word ∷ rest) again refl in
+      by_word plan number plays word rest (One (Frame circuit octets)) whole (rw (said2, said3, ends4) refl)
 
 -- the words that a report writes for an event are read as the event
 pub reads : ReadsWhatIsWritten
-unfolding command_of packet_command part_command many_of connect_in deliver_in lose_in restart_in frame_event_in packet_in wire_switch_in circuit_switch_in status_in priority_event_in ping_in
-reads plan (Connect from to) number plays names planned ranged =
-    let word : List ℕ = codes "connect" in
-    let rest : List (List ℕ) = edge_name plan from ∷ edge_name plan to ∷ [] in
-    let whole : AreWhole (word ∷ rest) = (literal word refl, (edge_whole plan from names planned.0, (edge_whole plan to names planned.1, tt))) in
-    let said2 = said_is (place_in (edge_names plan.edges)) number 2 (joined_words (word ∷ rest)) (edge_name plan from) from.0 (word_is 2 word rest whole) (edge_said plan from names planned.0) in
-    let said3 = said_is (place_in (edge_names plan.edges)) number 3 (joined_words (word ∷ rest)) (edge_name plan to) to.0 (word_is 3 word rest whole) (edge_said plan to names planned.1) in
-    let ends4 = ends_is number 4 (joined_words (word ∷ rest)) (word_is 4 word rest whole) in
-    by_word (names_of plan) number plays word rest (One (Connect from to)) whole.0 (rw (said2, said3, ends4) refl)
-reads plan (Deliver from to count) number plays names planned ranged =
-    let word : List ℕ = codes "deliver" in
-    let rest : List (List ℕ) = edge_name plan from ∷ edge_name plan to ∷ decimal count ∷ [] in
-    let whole : AreWhole (word ∷ rest) = (
-      literal word refl,
-      (edge_whole plan from names planned.0, (edge_whole plan to names planned.1, (decimal_whole count (omega (arith, ranged.0, ranged.1)), tt))),
-    ) in
-    let said2 = said_is (place_in (edge_names plan.edges)) number 2 (joined_words (word ∷ rest)) (edge_name plan from) from.0 (word_is 2 word rest whole) (edge_said plan from names planned.0) in
-    let said3 = said_is (place_in (edge_names plan.edges)) number 3 (joined_words (word ∷ rest)) (edge_name plan to) to.0 (word_is 3 word rest whole) (edge_said plan to names planned.1) in
-    let said4 = said_is (decimal_from 1 65535) number 4 (joined_words (word ∷ rest)) (decimal count) count (word_is 4 word rest whole)
-    (number_said 1 65535 count (omega (arith, ranged.0, ranged.1)) (omega (arith, ranged.0, ranged.1)) (omega (arith, ranged.0, ranged.1))) in
-    let ends5 = ends_is number 5 (joined_words (word ∷ rest)) (word_is 5 word rest whole) in
-    by_word (names_of plan) number plays word rest (One (Deliver from to count)) whole.0 (rw (said2, said3, said4, ends5) refl)
-reads plan (Lose edge peer) number plays names planned ranged =
-    let word : List ℕ = codes "lose" in
-    let rest : List (List ℕ) = edge_name plan edge ∷ edge_name plan peer ∷ [] in
-    let whole : AreWhole (word ∷ rest) = (literal word refl, (edge_whole plan edge names planned.0, (edge_whole plan peer names planned.1, tt))) in
-    let said2 = said_is (place_in (edge_names plan.edges)) number 2 (joined_words (word ∷ rest)) (edge_name plan edge) edge.0 (word_is 2 word rest whole) (edge_said plan edge names planned.0) in
-    let said3 = said_is (place_in (edge_names plan.edges)) number 3 (joined_words (word ∷ rest)) (edge_name plan peer) peer.0 (word_is 3 word rest whole) (edge_said plan peer names planned.1) in
-    let ends4 = ends_is number 4 (joined_words (word ∷ rest)) (word_is 4 word rest whole) in
-    by_word (names_of plan) number plays word rest (One (Lose edge peer)) whole.0 (rw (said2, said3, ends4) refl)
-reads plan (Restart edge) number plays names planned ranged =
-    let word : List ℕ = codes "restart" in
-    let rest : List (List ℕ) = edge_name plan edge ∷ [] in
-    let whole : AreWhole (word ∷ rest) = (literal word refl, (edge_whole plan edge names planned, tt)) in
-    let said2 = said_is (place_in (edge_names plan.edges)) number 2 (joined_words (word ∷ rest)) (edge_name plan edge) edge.0 (word_is 2 word rest whole) (edge_said plan edge names planned) in
-    let ends3 = ends_is number 3 (joined_words (word ∷ rest)) (word_is 3 word rest whole) in
-    by_word (names_of plan) number plays word rest (One (Restart edge)) whole.0 (rw (said2, ends3) refl)
-reads plan Tick number plays names planned ranged =
-    let word : List ℕ = codes "tick" in
-    let rest : List (List ℕ) = [] in
-    let whole : AreWhole (word ∷ rest) = (literal word refl, tt) in
-    by_word (names_of plan) number plays word rest (One Tick) whole.0 (rw (word_is 2 word rest whole) refl)
-reads plan (Frame circuit octets) number plays names planned ranged =
-    let word : List ℕ = codes "frame" in
-    let rest : List (List ℕ) = circuit_name plan circuit ∷ hex octets ∷ [] in
-    let whole : AreWhole (word ∷ rest) = (literal word refl, (circuit_whole plan circuit names planned.0, (octets_whole octets ranged.each, tt))) in
-    let said2 = said_is (place_in (circuit_names plan.circuits)) number 2 (joined_words (word ∷ rest)) (circuit_name plan circuit) circuit.0 (word_is 2 word rest whole)
-    (circuit_said plan circuit names planned.0) in
-    let said3 = said_is frame_of number 3 (joined_words (word ∷ rest)) (hex octets) octets (word_is 3 word rest whole) (frame_said octets ranged) in
-    let ends4 = ends_is number 4 (joined_words (word ∷ rest)) (word_is 4 word rest whole) in
-    by_word (names_of plan) number plays word rest (One (Frame circuit octets)) whole.0 (rw (said2, said3, ends4) refl)
-reads plan (Arrive packet) number plays names planned ranged =
-    let word : List ℕ = codes "arrive" in
-    let rest : List (List ℕ) = decimal packet ∷ [] in
-    let whole : AreWhole (word ∷ rest) = (literal word refl, (decimal_whole packet (omega (arith, ranged.0, ranged.1)), tt)) in
-    let said2 = said_is (decimal_from 1 (2 ^ 64 - 1)) number 2 (joined_words (word ∷ rest)) (decimal packet) packet (word_is 2 word rest whole)
-    (number_said 1 (2 ^ 64 - 1) packet (omega (arith, ranged.0, ranged.1)) (omega (arith, ranged.0, ranged.1)) (omega (arith, ranged.0, ranged.1))) in
-    let ends3 = ends_is number 3 (joined_words (word ∷ rest)) (word_is 3 word rest whole) in
-    by_word (names_of plan) number plays word rest (One (Arrive packet)) whole.0 (rw (said2, ends3) refl)
-reads plan (Discard packet) number plays names planned ranged =
-    let word : List ℕ = codes "drop" in
-    let rest : List (List ℕ) = decimal packet ∷ [] in
-    let whole : AreWhole (word ∷ rest) = (literal word refl, (decimal_whole packet (omega (arith, ranged.0, ranged.1)), tt)) in
-    let said2 = said_is (decimal_from 1 (2 ^ 64 - 1)) number 2 (joined_words (word ∷ rest)) (decimal packet) packet (word_is 2 word rest whole)
-    (number_said 1 (2 ^ 64 - 1) packet (omega (arith, ranged.0, ranged.1)) (omega (arith, ranged.0, ranged.1)) (omega (arith, ranged.0, ranged.1))) in
-    let ends3 = ends_is number 3 (joined_words (word ∷ rest)) (word_is 3 word rest whole) in
-    by_word (names_of plan) number plays word rest (One (Discard packet)) whole.0 (rw (said2, ends3) refl)
-reads plan (Again packet) number plays names planned ranged =
-    let word : List ℕ = codes "again" in
-    let rest : List (List ℕ) = decimal packet ∷ [] in
-    let whole : AreWhole (word ∷ rest) = (literal word refl, (decimal_whole packet (omega (arith, ranged.0, ranged.1)), tt)) in
-    let said2 = said_is (decimal_from 1 (2 ^ 64 - 1)) number 2 (joined_words (word ∷ rest)) (decimal packet) packet (word_is 2 word rest whole)
-    (number_said 1 (2 ^ 64 - 1) packet (omega (arith, ranged.0, ranged.1)) (omega (arith, ranged.0, ranged.1)) (omega (arith, ranged.0, ranged.1))) in
-    let ends3 = ends_is number 3 (joined_words (word ∷ rest)) (word_is 3 word rest whole) in
-    by_word (names_of plan) number plays word rest (One (Again packet)) whole.0 (rw (said2, ends3) refl)
-reads plan (Wire edge wire on) number plays names planned ranged =
-    let word : List ℕ = codes "wire" in
-    let rest : List (List ℕ) = edge_name plan edge ∷ wire_name plan wire ∷ switch_name on ∷ [] in
-    let whole : AreWhole (word ∷ rest) = (literal word refl, (edge_whole plan edge names planned.0, (wire_whole plan wire names planned.1, (switch_whole on, tt)))) in
-    let said2 = said_is (place_in (edge_names plan.edges)) number 2 (joined_words (word ∷ rest)) (edge_name plan edge) edge.0 (word_is 2 word rest whole) (edge_said plan edge names planned.0) in
-    let said3 = said_is (place_in (wire_names plan.wires)) number 3 (joined_words (word ∷ rest)) (wire_name plan wire) wire.0 (word_is 3 word rest whole) (wire_said plan wire names planned.1) in
-    let said4 = said_is switch_of number 4 (joined_words (word ∷ rest)) (switch_name on) on (word_is 4 word rest whole) (switch_said on) in
-    let ends5 = ends_is number 5 (joined_words (word ∷ rest)) (word_is 5 word rest whole) in
-    by_word (names_of plan) number plays word rest (One (Wire edge wire on)) whole.0 (rw (said2, said3, said4, ends5) refl)
-reads plan (Circuit circuit on) number plays names planned ranged =
-    let word : List ℕ = codes "circuit" in
-    let rest : List (List ℕ) = circuit_name plan circuit ∷ switch_name on ∷ [] in
-    let whole : AreWhole (word ∷ rest) = (literal word refl, (circuit_whole plan circuit names planned, (switch_whole on, tt))) in
-    let said2 = said_is (place_in (circuit_names plan.circuits)) number 2 (joined_words (word ∷ rest)) (circuit_name plan circuit) circuit.0 (word_is 2 word rest whole)
-    (circuit_said plan circuit names planned) in
-    let said3 = said_is switch_of number 3 (joined_words (word ∷ rest)) (switch_name on) on (word_is 3 word rest whole) (switch_said on) in
-    let ends4 = ends_is number 4 (joined_words (word ∷ rest)) (word_is 4 word rest whole) in
-    by_word (names_of plan) number plays word rest (One (Circuit circuit on)) whole.0 (rw (said2, said3, ends4) refl)
-reads plan (Status edge wire bits) number plays names planned ranged =
-    let word : List ℕ = codes "status" in
-    let rest : List (List ℕ) = edge_name plan edge ∷ wire_name plan wire ∷ decimal bits ∷ [] in
-    let whole : AreWhole (word ∷ rest) = (literal word refl, (edge_whole plan edge names planned.0, (wire_whole plan wire names planned.1, (decimal_whole bits (omega (arith, planned.2)), tt)))) in
-    let said2 = said_is (place_in (edge_names plan.edges)) number 2 (joined_words (word ∷ rest)) (edge_name plan edge) edge.0 (word_is 2 word rest whole) (edge_said plan edge names planned.0) in
-    let said3 = said_is (place_in (wire_names plan.wires)) number 3 (joined_words (word ∷ rest)) (wire_name plan wire) wire.0 (word_is 3 word rest whole) (wire_said plan wire names planned.1) in
-    let said4 = said_is (decimal_from 0 31) number 4 (joined_words (word ∷ rest)) (decimal bits) bits (word_is 4 word rest whole)
-    (number_said 0 31 bits (omega (arith, planned.2)) (omega (arith, planned.2)) (omega (arith, planned.2))) in
-    let ends5 = ends_is number 5 (joined_words (word ∷ rest)) (word_is 5 word rest whole) in
-    by_word (names_of plan) number plays word rest (One (Status edge wire bits)) whole.0 (rw (said2, said3, said4, ends5) refl)
-reads plan (Priority edge wire priority) number plays names planned ranged =
-    let word : List ℕ = codes "priority" in
-    let rest : List (List ℕ) = edge_name plan edge ∷ wire_name plan wire ∷ decimal priority ∷ [] in
-    let whole : AreWhole (word ∷ rest) = (literal word refl, (edge_whole plan edge names planned.0, (wire_whole plan wire names planned.1, (decimal_whole priority (omega (arith, ranged)), tt)))) in
-    let said2 = said_is (place_in (edge_names plan.edges)) number 2 (joined_words (word ∷ rest)) (edge_name plan edge) edge.0 (word_is 2 word rest whole) (edge_said plan edge names planned.0) in
-    let said3 = said_is (place_in (wire_names plan.wires)) number 3 (joined_words (word ∷ rest)) (wire_name plan wire) wire.0 (word_is 3 word rest whole) (wire_said plan wire names planned.1) in
-    let said4 = said_is (decimal_from 0 255) number 4 (joined_words (word ∷ rest)) (decimal priority) priority (word_is 4 word rest whole)
-    (number_said 0 255 priority (omega (arith, ranged)) (omega (arith, ranged)) (omega (arith, ranged))) in
-    let ends5 = ends_is number 5 (joined_words (word ∷ rest)) (word_is 5 word rest whole) in
-    by_word (names_of plan) number plays word rest (One (Priority edge wire priority)) whole.0 (rw (said2, said3, said4, ends5) refl)
-reads plan (Ping edge wire) number plays names planned ranged =
-    let word : List ℕ = codes "ping" in
-    let rest : List (List ℕ) = edge_name plan edge ∷ wire_name plan wire ∷ [] in
-    let whole : AreWhole (word ∷ rest) = (literal word refl, (edge_whole plan edge names planned.0, (wire_whole plan wire names planned.1, tt))) in
-    let said2 = said_is (place_in (edge_names plan.edges)) number 2 (joined_words (word ∷ rest)) (edge_name plan edge) edge.0 (word_is 2 word rest whole) (edge_said plan edge names planned.0) in
-    let said3 = said_is (place_in (wire_names plan.wires)) number 3 (joined_words (word ∷ rest)) (wire_name plan wire) wire.0 (word_is 3 word rest whole) (wire_said plan wire names planned.1) in
-    let ends4 = ends_is number 4 (joined_words (word ∷ rest)) (word_is 4 word rest whole) in
-    by_word (names_of plan) number plays word rest (One (Ping edge wire)) whole.0 (rw (said2, said3, ends4) refl)
+reads plan x number plays names of in_ = elim (event_row plan x (named_of plan x of in_)) [
+  | inl frame ↦
+      subst (λ (e : Event). IsEventOf plan e → IsEventInRange e → command_in plan number plays (spaced_words (event_words plan e)) ≡ Ok (One e)) (sym frame.is)
+      (frame_read plan number plays names frame.circuit frame.octets) of in_
+  | inr told ↦ by_row plan number plays names x told
+]
+
+-- and they are graphic
+pub event_graphic : (plan : Plan) (x : Event) → HasNames plan → IsEventOf plan x → IsEventInRange x → AreGraphic (event_words plan x)
+event_graphic plan x names of in_ = elim (event_row plan x (named_of plan x of in_)) [
+  | inl frame ↦
+      subst (λ (e : Event). IsEventOf plan e → IsEventInRange e → AreGraphic (event_words plan e)) (sym frame.is) (frame_graphic plan frame.circuit frame.octets names) of in_
+  | inr told ↦ subst AreGraphic (sym told.written) (row_words_graphic plan told.row told.values names told.within told.fit)
+]
+
+-- ---- the other way
+
+-- the numbers that a row reads are in the ranges of its event
+abbrev InRange : Plan → ℕ → Type 0
+InRange plan row = (v : List ℕ) → AreValuesOf plan (form_at event_forms row).kinds v → IsEventInRange (event_made row v)
+
+ranges : (plan : Plan) → AllBelow (InRange plan) 13
+ranges plan =
+    let packet : (n : ℕ) → (1 ≤ n) × (n ≤ 18446744073709551615) → IsPacket n = λ n fit. (fit.0, omega (arith, fit.1)) in (
+      (
+        (
+          (
+            (
+              (
+                (
+                  (
+                    (
+                      ((((tt, λ v fit. fit.1.1.1.1.1.0), λ v fit. packet (nth_value 0 v) fit.1.0), λ v fit. packet (nth_value 0 v) fit.1.0), λ v fit. packet (nth_value 0 v) fit.1.0),
+                      λ v fit. tt,
+                    ),
+                    λ v fit. tt,
+                  ),
+                  λ v fit. tt,
+                ),
+                λ v fit. tt,
+              ),
+              λ v fit. tt,
+            ),
+            λ v fit. tt,
+          ),
+          λ v fit. tt,
+        ),
+        λ v fit. fit.1.1.1.1.1.0.1,
+      ),
+      λ v fit. tt,
+    )
+
+pub row_in_range : (plan : Plan) (row : ℕ) (values : List ℕ) → row < 13 → AreValuesOf plan (form_at event_forms row).kinds values → IsEventInRange (event_made row values)
+row_in_range plan row values lt fit = below_all (InRange plan) 13 row (ranges plan) lt values fit

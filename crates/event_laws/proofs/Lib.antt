@@ -1,3 +1,3 @@
-pub mod WordLemmas
-pub mod ValueLemmas
 pub mod EventLemmas
+pub mod ReadLemmas
+pub mod ValueLemmas

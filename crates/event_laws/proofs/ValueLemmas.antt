@@ -1,41 +1,68 @@
 -- What names, numbers, octets and switches say.
-use Rattle.std.proofs.Common.{◌≡◌, ◌<◌, ◌+◌, ◌*◌, ◌/◌, ◌%◌, ◌^◌, ◌==◌, ◌&&◌, not, ℕ, suc, Bool, true, false, List, [], ◌∷◌, length, map, get_or, slice_get, slice_index, Option, Some, None, option_map, unwrap_or, nat_le, refl, ap, arith}
+use Rattle.std.proofs.Common.{◌≡◌, ◌<◌, ◌≤◌, ◌+◌, ◌*◌, ◌/◌, ◌%◌, ◌^◌, ◌==◌, ◌&&◌, ℕ, suc, Bool, true, List, [], ◌∷◌, length, map, get_or, slice_get, slice_index, Option, Some, None, option_map, unwrap_or, nat_le, refl, ap, arith}
 use Rattle.std.proofs.lemmas.List.{length-map}
 use Rattle.std.specs.Fmt.{decimal}
 use Rattle.std.specs.List.{All, list_all}
-use Rattle.std.proofs.lemmas.Bool.{eqb-true, le-leb, not-true, and_parts as parts}
+use Rattle.std.proofs.lemmas.Bool.{eqb-true, le-leb, and_parts as parts}
 use Rattle.std.proofs.lemmas.Bool.Decides.{nat_tests}
 use Rattle.std.proofs.lemmas.Fmt.{digits_decimal}
 use Rattle.hex.specs.Hex.{encode_with, lower_digits}
 use Rattle.net_values.specs.Name.{IsName, is_name_octet_of}
-use Rattle.report_text.specs.Words.{name_or_empty, switch_name}
+use Rattle.report_text.specs.Choices.{choice_word, choice_words}
+use Rattle.report_text.specs.declared.choice.Choice.{Choice}
+use Rattle.report_text.specs.declared.choice.Choice.TheVariants.{Switch, Cause, End, State}
+use Rattle.report_text.specs.Words.{name_or_empty}
+use Rattle.script_text.specs.Script.{is_graphic}
+use Rattle.script_text.proofs.PartLemmas.{AreWhole, IsWhole}
 use Rattle.plan_names.specs.Decimal.{is_digit_of}
-use Rattle.command_text.specs.Words.{is_space, switch_of}
 use Rattle.octet_text.specs.Hex.{digit_value, pair_value, unhex}
 use Rattle.command_text.specs.Hex.{frame_of}
 use Rattle.plan_names.proofs.BelowLemmas.{all_below, below_at}
 use Rattle.plan_names.proofs.DecimalLemmas.{numerals}
 use Rattle.line_shapes.proofs.NameLemmas.{row_name}
 use Rattle.text_pieces.specs.Pieces.{hex}
-use Rattle.plan_names.specs.Planned.{AreNames}
+use Rattle.net_base.specs.declared.plan.Plan.{Plan}
+use Rattle.plan_names.specs.Planned.{AreNames, HasNames}
+use Rattle.line_shapes.specs.Laws.{AreKinds, IsKind}
+use Rattle.line_shapes.specs.Shapes.{AreValuesOf, IsFit, first_value, value_word, value_words, values_behind}
+use Rattle.line_shapes.specs.declared.kind.Kind.{Kind}
+use Rattle.line_shapes.specs.declared.kind.Kind.TheVariants.{Edge, Circuit, Wire, Between, Number, OneOf}
 use Rattle.event_laws.specs.Law.{IsWritable}
-use Rattle.event_laws.proofs.WordLemmas.{IsWhole}
 
--- octets of a kind that has no blank
-abbrev pub HasNoSpace : (ℕ → Bool) → Type 0
-HasNoSpace test = (c : ℕ) → test c ≡ true → is_space c ≡ false
+-- graphic octets
+abbrev pub IsGraphic : List ℕ → Type 0
+IsGraphic word = list_all is_graphic word ≡ true
 
-pub whole_by : (test : ℕ → Bool) → HasNoSpace test → (word : List ℕ) → list_all test word ≡ true → IsWhole word
-whole_by test none [] e = tt
-whole_by test none (c ∷ cs) e =
+abbrev pub AreGraphic : List (List ℕ) → Type 0
+AreGraphic [] = Unit {0}
+AreGraphic (word ∷ words) = IsGraphic word × AreGraphic words
+
+-- they have no space among them
+pub whole_word : (word : List ℕ) → IsGraphic word → IsWhole word
+whole_word [] e = tt
+whole_word (c ∷ cs) e =
+    let both = parts (is_graphic c) (list_all is_graphic cs) e in
+    let above = (parts (nat_le 33 c) (nat_le c 126) both.0).0 in
+    (grind (arith, nat_tests, above), whole_word cs both.1)
+
+pub whole_words : (words : List (List ℕ)) → AreGraphic words → AreWhole words
+whole_words [] are = tt
+whole_words (word ∷ words) are = (whole_word word are.0, whole_words words are.1)
+
+graphic_at : (c : ℕ) → 33 ≤ c → c ≤ 126 → is_graphic c ≡ true
+graphic_at c low high = rw (le-leb 33 c low, le-leb c 126 high) refl
+
+graphic_by : (test : ℕ → Bool) → ((c : ℕ) → test c ≡ true → is_graphic c ≡ true) → (word : List ℕ) → list_all test word ≡ true → IsGraphic word
+graphic_by test graphic [] e = refl
+graphic_by test graphic (c ∷ cs) e =
     let both = parts (test c) (list_all test cs) e in
-    (none c both.0, whole_by test none cs both.1)
+    rw (graphic c both.0, graphic_by test graphic cs both.1) refl
 
-digit_has_none : HasNoSpace is_digit_of
-digit_has_none c e = grind (arith, nat_tests, e)
+digit_graphic : (c : ℕ) → is_digit_of c ≡ true → is_graphic c ≡ true
+digit_graphic c e = graphic_at c (grind (arith, nat_tests, e)) (grind (arith, nat_tests, e))
 
-pub decimal_whole : (n : ℕ) → n < 2 ^ 64 → IsWhole (decimal n)
-decimal_whole n h = whole_by is_digit_of digit_has_none (decimal n) (digits_decimal numerals n h)
+pub decimal_graphic : (n : ℕ) → n < 2 ^ 64 → IsGraphic (decimal n)
+decimal_graphic n h = graphic_by is_digit_of digit_graphic (decimal n) (digits_decimal numerals n h)
 
 is_read : ℕ → Bool
 is_read d = unwrap_or (digit_value (slice_index lower_digits d)) 16 == d
@@ -47,10 +74,6 @@ some_from None d lt e = absurd (omega arith)
 digit_read : (d : ℕ) → d < 16 → digit_value (slice_index lower_digits d) ≡ Some d
 unfolding is_read all_below
 digit_read d lt = some_from (digit_value (slice_index lower_digits d)) d lt (eqb-true _ d (below_at is_read 16 d refl lt))
-
-digit_whole : (d : ℕ) → d < 16 → is_space (slice_index lower_digits d) ≡ false
-unfolding all_below
-digit_whole d lt = not-true (is_space (slice_index lower_digits d)) (below_at (λ n. not (is_space (slice_index lower_digits n))) 16 d refl lt)
 
 pair_read : (octet : ℕ) → octet < 256 → pair_value (slice_index lower_digits (octet / 16)) (slice_index lower_digits (octet % 16)) ≡ Some octet
 pair_read octet h =
@@ -64,31 +87,47 @@ octets_read [] fit = refl
 octets_read (octet ∷ octets) fit =
     rw (pair_read octet (fit 0 0 (omega arith)), octets_read octets (λ k d lt. fit (suc k) d (omega arith))) refl
 
-pub octets_whole : (octets : List ℕ) → All (λ octet. octet < 256) octets → IsWhole (hex octets)
+hex_graphic : (d : ℕ) → d < 16 → is_graphic (slice_index lower_digits d) ≡ true
+unfolding all_below
+hex_graphic d lt = below_at (λ n. is_graphic (slice_index lower_digits n)) 16 d refl lt
+
+pub octets_graphic : (octets : List ℕ) → All (λ octet. octet < 256) octets → IsGraphic (hex octets)
 unfolding encode_with
-octets_whole [] fit = tt
-octets_whole (octet ∷ octets) fit =
-    let h : octet < 256 = fit 0 0 (omega arith) in
-    (digit_whole (octet / 16) (omega arith), (digit_whole (octet % 16) (omega arith), octets_whole octets (λ k d lt. fit (suc k) d (omega arith))))
+octets_graphic [] fit = refl
+octets_graphic (octet ∷ octets) fit =
+    rw (hex_graphic (octet / 16) (omega (arith, fit 0 0 (omega arith))), hex_graphic (octet % 16) (omega arith), octets_graphic octets (λ k d lt. fit (suc k) d (omega arith))) refl
 
 -- a frame is read from its digits
 pub frame_said : (octets : List ℕ) → IsWritable octets → frame_of (hex octets) ≡ Some octets
 frame_said octets fit = rw (octets_read octets fit.each, le-leb 1 (length octets) fit.some, le-leb (length octets) 9216 fit.few) refl
 
-pub switch_said : (on : Bool) → switch_of (switch_name on) ≡ Some on
-switch_said true = refl
-switch_said false = refl
+name_graphic : (c : ℕ) → is_name_octet_of c ≡ true → is_graphic c ≡ true
+name_graphic c e = graphic_at c (grind (arith, nat_tests, e)) (grind (arith, nat_tests, e))
 
-pub switch_whole : (on : Bool) → IsWhole (switch_name on)
-switch_whole true = (refl, (refl, tt))
-switch_whole false = (refl, (refl, (refl, tt)))
+pub name_is_graphic : (name : List ℕ) → IsName name → IsGraphic name
+name_is_graphic name is = graphic_by is_name_octet_of name_graphic name (parts (nat_le 1 (length name) && nat_le (length name) 32) (list_all is_name_octet_of name) is).1
 
-name_has_none : HasNoSpace is_name_octet_of
-name_has_none c e = grind (arith, nat_tests, e)
+pub row_graphic : {Y : Type 0} (f : Y → List ℕ) (rows : List Y) (i : ℕ) → AreNames (map f rows) → i < length rows
+    → IsGraphic (name_or_empty (option_map f (slice_get rows i)))
+row_graphic f rows i are lt = rw (row_name f rows i lt) (name_is_graphic (get_or (map f rows) i []) (are.each i [] (rw length-map lt)))
 
-name_whole : (name : List ℕ) → IsName name → IsWhole name
-name_whole name is = whole_by is_name_octet_of name_has_none name (parts (nat_le 1 (length name) && nat_le (length name) 32) (list_all is_name_octet_of name) is).1
+choice_graphic : (choice : Choice) (n : ℕ) → n < length (choice_words choice) → IsGraphic (choice_word choice n)
+unfolding all_below
+choice_graphic Switch n lt = below_at (λ k. list_all is_graphic (choice_word Switch k)) 2 n refl lt
+choice_graphic Cause n lt = below_at (λ k. list_all is_graphic (choice_word Cause k)) 18 n refl lt
+choice_graphic End n lt = below_at (λ k. list_all is_graphic (choice_word End k)) 9 n refl lt
+choice_graphic State n lt = below_at (λ k. list_all is_graphic (choice_word State k)) 16 n refl lt
 
-pub row_whole : {Y : Type 0} (f : Y → List ℕ) (rows : List Y) (i : ℕ) → AreNames (map f rows) → i < length rows
-    → IsWhole (name_or_empty (option_map f (slice_get rows i)))
-row_whole f rows i are lt = rw (row_name f rows i lt) (name_whole (get_or (map f rows) i []) (are.each i [] (rw length-map lt)))
+word_graphic : (plan : Plan) (kind : Kind) (value : ℕ) → HasNames plan → IsKind kind → IsFit plan kind value → IsGraphic (value_word plan kind value)
+word_graphic plan Edge value names small fit = row_graphic (λ row. row.name) plan.edges value names.edges fit
+word_graphic plan Circuit value names small fit = row_graphic (λ row. row.name) plan.circuits value names.circuits fit
+word_graphic plan Wire value names small fit = row_graphic (λ row. row.name) plan.wires value names.wires fit
+word_graphic plan Between value names small fit = row_graphic (λ row. row.name) plan.wires value names.wires fit.0
+word_graphic plan (Number low high) value names small fit = decimal_graphic value (omega (arith, small, fit.1))
+word_graphic plan (OneOf choice) value names small fit = choice_graphic choice value fit
+
+-- the words of values are graphic
+pub values_graphic : (plan : Plan) (kinds : List Kind) (values : List ℕ) → HasNames plan → AreKinds kinds → AreValuesOf plan kinds values → AreGraphic (value_words plan kinds values)
+values_graphic plan [] values names small fit = tt
+values_graphic plan (kind ∷ kinds) values names small fit =
+    (word_graphic plan kind (first_value values) names small.0 fit.1.0, values_graphic plan kinds (values_behind values) names small.1 fit.1.1)

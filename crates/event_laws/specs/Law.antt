@@ -1,20 +1,15 @@
 -- The words of an event, written and read.
-use Rattle.std.specs.Prelude.{◌≡◌, ◌<◌, ◌≤◌, ◌++◌, ◌^◌, ℕ, codes, List, [], ◌∷◌, length, Ok}
+use Rattle.std.specs.Prelude.{◌≡◌, ◌<◌, ◌≤◌, ◌^◌, ℕ, List, length, Ok}
 use Rattle.net_base.specs.declared.plan.Plan.{Plan}
 use Rattle.net_base.specs.declared.trace.event.Event.{Event}
 use Rattle.net_base.specs.declared.trace.event.Event.TheVariants.{Connect, Deliver, Lose, Restart, Tick, Frame, Arrive, Discard, Again, Wire, Circuit, Status, Priority, Ping}
 use Rattle.net_base.specs.plan.Planned.{IsEventOf}
 use Rattle.std.specs.List.{All}
 use Rattle.report_text.specs.Words.{event_words}
-use Rattle.plan_names.specs.Planned.{HasNames, names_of}
+use Rattle.plan_names.specs.Planned.{HasNames}
+use Rattle.script_text.specs.Script.{spaced_words}
 use Rattle.command_text.specs.Events.{command_in}
 use Rattle.command_text.specs.declared.command.Command.TheVariants.{One}
-
--- words, parted by one blank
-abbrev pub joined_words : List (List ℕ) → List ℕ
-joined_words [] = []
-joined_words (word ∷ []) = word
-joined_words (word ∷ next ∷ words) = word ++ (codes " " ++ joined_words (next ∷ words))
 
 -- the number of a packet
 abbrev pub IsPacket : ℕ → Type 0
@@ -46,4 +41,4 @@ IsEventInRange (Ping edge wire) = Unit {0}
 -- the words of an event are read as the event
 abbrev pub ReadsWhatIsWritten : Type 0
 ReadsWhatIsWritten = (plan : Plan) (event : Event) (number plays : ℕ) → HasNames plan → IsEventOf plan event → IsEventInRange event
-    → command_in (names_of plan) number plays (joined_words (event_words plan event)) ≡ Ok (One event)
+    → command_in plan number plays (spaced_words (event_words plan event)) ≡ Ok (One event)

@@ -5,6 +5,7 @@ use Rattle.net_base.specs.declared.plan.Plan.{Plan}
 use Rattle.net_base.specs.declared.plan.places.CircuitId.{CircuitId}
 use Rattle.net_base.specs.declared.trace.event.Event.{Event}
 use Rattle.net_base.specs.declared.trace.event.Event.TheVariants as event
+use Rattle.net_base.specs.plan.Planned.{IsEventOf}
 use Rattle.plan_names.proofs.BelowLemmas.{all_below, below_at}
 use Rattle.report_text.specs.Choices.{choice_word, choice_words, switch_place}
 use Rattle.report_text.specs.declared.choice.Choice.{Choice}
@@ -13,7 +14,7 @@ use Rattle.report_text.specs.Named.{IsNamedEvent}
 use Rattle.report_text.specs.Words.{event_words}
 use Rattle.line_shapes.specs.Shapes.{AreValuesOf, form_at, row_words, nth_value, value_word}
 use Rattle.line_shapes.specs.declared.kind.Kind.TheVariants as kind
-use Rattle.line_shapes.proofs.TableLemmas.{AllBelow, IsRow}
+use Rattle.line_shapes.proofs.TableLemmas.{AllBelow, IsRow, below_all}
 use Rattle.event_rows.specs.Rows.{event_forms, event_made}
 
 -- the word of what a place tells is the word of the place
@@ -109,3 +110,30 @@ module _ (plan : Plan) where
   event_row (event.Priority edge wire priority) is =
       inr (record { row = 11; values = edge.0 ∷ wire.0 ∷ priority ∷ []; within = omega arith; fit = (refl, (is.0, (refl, (is.1.0, (refl, (is.1.1, refl)))))); written = refl; is = refl })
   event_row (event.Ping edge wire) is = inr (record { row = 12; values = edge.0 ∷ wire.0 ∷ []; within = omega arith; fit = (refl, (is.0, (refl, (is.1, refl)))); written = refl; is = refl })
+
+-- ---- what a row makes is of the plan
+
+abbrev OfPlan : Plan → ℕ → Type 0
+OfPlan plan row = (v : List ℕ) → AreValuesOf plan (form_at event_forms row).kinds v → IsEventOf plan (event_made row v)
+
+all_of_plan : (plan : Plan) → AllBelow (OfPlan plan) 13
+all_of_plan plan = ((
+  (
+    (
+      (
+        (
+          ((((((((tt, λ v fit. (fit.1.0, fit.1.1.1.0)), λ v fit. tt), λ v fit. tt), λ v fit. tt), λ v fit. (fit.1.0, fit.1.1.1.0)), λ v fit. (fit.1.0, fit.1.1.1.0)), λ v fit. fit.1.0), λ v fit. tt),
+          λ v fit. (fit.1.0, fit.1.1.1.0),
+        ),
+        λ v fit. fit.1.0,
+      ),
+      λ v fit. (fit.1.0, fit.1.1.1.0, fit.1.1.1.1.1.0.1),
+    ),
+    λ v fit. (fit.1.0, fit.1.1.1.0),
+  ),
+  λ v fit. (fit.1.0, fit.1.1.1.0),
+)
+    )
+
+pub row_planned : (plan : Plan) (row : ℕ) (values : List ℕ) → row < 13 → AreValuesOf plan (form_at event_forms row).kinds values → IsEventOf plan (event_made row values)
+row_planned plan row values lt fit = below_all (OfPlan plan) 13 row (all_of_plan plan) lt values fit

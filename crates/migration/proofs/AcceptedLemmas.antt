@@ -11,13 +11,12 @@ use Rattle.net_base.specs.declared.plan.table.Table.{Table}
 use Rattle.net_base.specs.declared.plan.table.Table.TheVariants as kind
 use Rattle.net_base.specs.plan.Accepted.{IsWithinLimits}
 use Rattle.net_base.specs.plan.NameFaults.{edge_names, service_names, circuit_names, wire_names}
-use Rattle.plan_names.specs.declared.plan_names.PlanNames.{PlanNames}
 use Rattle.command_text.specs.declared.row_place.RowPlace.{RowPlace}
 use Rattle.command_text.specs.declared.scenario_fault.ScenarioFault.{ScenarioFault}
 use Rattle.command_text.specs.declared.scenario_fault.ScenarioFault.TheVariants.{TooMany, NotToml}
 use Rattle.command_text.specs.Events.{commands_in, event_in, plays_after, most_events}
 use Rattle.command_text.specs.Places.{top_row}
-use Rattle.plan_names.specs.Planned.{HasNames, names_of}
+use Rattle.plan_names.specs.Planned.{HasNames}
 use Rattle.command_text.specs.Reading.{checked}
 use Rattle.scenario_text.specs.declared.circuit_row.CircuitRow.{CircuitRow}
 use Rattle.scenario_text.specs.declared.group_row.GroupRow.{GroupRow}
@@ -131,11 +130,11 @@ plan_limits arrays are =
     plan_within edges services groups circuits wires (omega (arith, e, are.edges)) (omega (arith, s, are.services)) (omega (arith, c, are.circuits)) (omega (arith, w, are.wires)))))))
 
 -- as many commands as events
-commands_length : (names : PlanNames) (number plays : ℕ) (items : Items) → IfOk (commands_in names number plays items) (λ xs. length xs ≡ items_length items)
-commands_length names number plays no_items = refl
-commands_length names number plays (item value rest) =
-    if_any _ (event_in names number plays value) _ (λ command.
-    if_ok _ (commands_in names (number + 1) (plays_after plays command) rest) _ (commands_length names (number + 1) (plays_after plays command) rest) (λ xs e. ap (λ n. suc n) e))
+commands_length : (plan : Plan) (number plays : ℕ) (items : Items) → IfOk (commands_in plan number plays items) (λ xs. length xs ≡ items_length items)
+commands_length plan number plays no_items = refl
+commands_length plan number plays (item value rest) =
+    if_any _ (event_in plan number plays value) _ (λ command.
+    if_ok _ (commands_in plan (number + 1) (plays_after plays command) rest) _ (commands_length plan (number + 1) (plays_after plays command) rest) (λ xs e. ap (λ n. suc n) e))
 
 -- a plan that can be said, and commands that can be, at most so many
 pub record IsReadScenario (scenario : Scenario) : Type 0 where
@@ -148,8 +147,8 @@ unfolding scenario_in
 scenario_ok ms =
     if_ok _ (arrays_in ms) _ (arrays_few ms) (λ arrays are.
     if_ok _ (plan_in arrays) _ (if_both _ _ (plan_in arrays) (plan_in_ok arrays) (plan_limits arrays are)) (λ plan is.
-    if_ok _ (commands_in (names_of plan) 1 0 arrays.events) _
-    (if_both _ _ (commands_in (names_of plan) 1 0 arrays.events) (commands_said plan 1 0 arrays.events) (commands_length (names_of plan) 1 0 arrays.events)) (λ commands said.
+    if_ok _ (commands_in plan 1 0 arrays.events) _
+    (if_both _ _ (commands_in plan 1 0 arrays.events) (commands_said plan 1 0 arrays.events) (commands_length plan 1 0 arrays.events)) (λ commands said.
     record {
       plan = read_plan plan (checked_plan plan is.1 is.0.sound) is.0;
       commands = said.0;

@@ -1,15 +1,15 @@
 -- Commands that were read can be said.
-use Rattle.std.proofs.Common.{◌≡◌, ◌<◌, ◌≤◌, ◌+◌, ◌-◌, ◌*◌, ◌&&◌, ◌^◌, nat_le, nat_lt, ℕ, zero, suc, Bool, true, false, cond, List, [], ◌∷◌, length, map, take, Option, Some, None, is_some, option_and_then, option_map, Result, Ok, Err, IfOk, IfSome, codes, leb-true, refl, sym, subst, arith, inl, inr, if◌then◌else◌}
-use Rattle.std.proofs.lemmas.Bool.{and_parts, cases_Bool}
+use Rattle.std.proofs.Common.{◌≡◌, ◌<◌, ◌≤◌, ◌+◌, ◌-◌, ◌*◌, ◌&&◌, nat_le, nat_lt, ℕ, zero, suc, Bool, true, false, cond, List, [], ◌∷◌, length, map, Option, Some, None, is_some, option_and_then, option_map, Result, Ok, Err, IfOk, IfSome, codes, leb-true, refl, subst, arith, if◌then◌else◌}
+use Rattle.std.proofs.lemmas.Bool.{and_parts}
 use Rattle.std.proofs.lemmas.Bool.Decides.{Decides-ltb}
 use Rattle.std.proofs.lemmas.List.{length-map}
-use Rattle.std.specs.List.{All, AllByRecursion, position_or_len}
+use Rattle.std.specs.List.{All, AllByRecursion}
 use Rattle.std.specs.Str.{bytes_eq}
 use Rattle.toml.specs.Data.{Items, no_items, item, as_str}
 use Rattle.net_base.specs.declared.plan.Plan.{Plan}
 use Rattle.net_base.specs.declared.trace.event.Event.{Event}
-use Rattle.net_base.specs.declared.trace.event.Event.TheVariants.{Tick, Arrive, Discard, Again}
-use Rattle.net_base.specs.plan.NameFaults.{edge_names, circuit_names, wire_names}
+use Rattle.net_base.specs.declared.trace.event.Event.TheVariants.{Tick}
+use Rattle.net_base.specs.plan.NameFaults.{circuit_names}
 use Rattle.net_base.specs.plan.Planned.{IsEventOf}
 use Rattle.command_text.specs.declared.command.Command.{Command}
 use Rattle.command_text.specs.declared.command.Command.TheVariants.{One, Ticks}
@@ -18,14 +18,22 @@ use Rattle.command_text.specs.declared.scenario_fault.ScenarioFault.TheVariants.
 use Rattle.command_text.specs.Reading.{◌>>=◌, checked, found}
 use Rattle.plan_names.specs.Planned.{names_of}
 use Rattle.command_text.specs.Planned.{IsCount}
-use Rattle.command_text.specs.Events.{connect_in, deliver_in, lose_in, restart_in, frame_event_in, packet_in, wire_switch_in, circuit_switch_in, status_in, priority_event_in, ping_in, repeats_in, tick_in, play_in, one, many_of, part_command, packet_command, command_of, event_in, plays_after, commands_in}
+use Rattle.command_text.specs.Events.{command_of, commands_in, event_by, event_in, frame_event_in, one, play_in, plays_after, repeats_in, row_event_in, tick_in}
 use Rattle.octet_text.specs.Hex.{digit_value, pair_value, unhex}
 use Rattle.command_text.specs.Hex.{of_frame_size, frame_of}
 use Rattle.plan_names.specs.Names.{place_in}
 use Rattle.plan_names.specs.Decimal.{value_from, is_decimal, decimal_from}
-use Rattle.command_text.specs.Words.{is_space, after_word, first_word, word_after, word_at, said_word, ends_before, switch_of, some_word}
+use Rattle.command_text.specs.Words.{is_space, first_word, word_at, said_word, ends_before, some_word}
+use Rattle.event_rows.proofs.RowLemmas.{row_planned}
+use Rattle.event_laws.proofs.EventLemmas.{row_in_range}
+use Rattle.script_text.specs.Parts.{before_part, parted_by}
+use Rattle.script_text.specs.Script.{space, words_of}
+use Rattle.line_shapes.specs.Shapes.{line_said}
+use Rattle.line_shapes.proofs.FitLemmas.{line_fit}
+use Rattle.line_shapes.proofs.TableLemmas.{line_within}
+use Rattle.event_rows.specs.Rows.{event_forms}
 use Rattle.plan_names.proofs.NameLemmas.{place_within}
-use Rattle.event_laws.specs.Law.{IsEventInRange, IsPacket, IsWritable}
+use Rattle.event_laws.specs.Law.{IsEventInRange, IsWritable}
 use Rattle.migration.specs.CommandLaw.{HasNoBlank, IsSaidCommand, AreSaidCommands}
 
 -- reading in steps
@@ -115,28 +123,31 @@ frame_ok word = of_octets (unhex word) (unhex_ok word)
         record { each = all_octets octets each; some = size.0; few = size.1 })
 
 -- a word has no blank
-first_clean : (text : List ℕ) → HasNoBlank (first_word text)
-first_clean [] = tt
-first_clean (c ∷ cs) = elim (cases_Bool (is_space c)) [
-  | inl is ↦
-      let here : position_or_len is_space (c ∷ cs) ≡ 0 = rw is refl in
-      subst (λ n. HasNoBlank (take n (c ∷ cs))) (sym here) tt
-  | inr other ↦
-      let more : position_or_len is_space (c ∷ cs) ≡ suc (position_or_len is_space cs) = rw other (omega arith) in
-      subst (λ n. HasNoBlank (take n (c ∷ cs))) (sym more) (other, first_clean cs)
-]
+abbrev AreClean : List (List ℕ) → Type 0
+AreClean [] = Unit {0}
+AreClean (word ∷ words) = HasNoBlank word × AreClean words
 
-word_clean : (n : ℕ) (text : List ℕ) → IfSome (word_after n text) HasNoBlank
-word_clean zero text = first_clean text
-word_clean (suc n) text = of_rest (λ rest. word_clean n rest) (after_word text)
+words_clean : (text : List ℕ) → AreClean (words_of text)
+unfolding parted_by
+words_clean [] = (tt, tt)
+words_clean (octet ∷ rest) = of_test (octet == space) refl (words_of rest) (words_clean rest)
   where
-    of_rest : ((rest : List ℕ) → IfSome (word_after n rest) HasNoBlank) → (rest : Option (List ℕ)) → IfSome (option_and_then (word_after n) rest) HasNoBlank
-    of_rest later None = tt
-    of_rest later (Some rest) = later rest
+    of_words : (words : List (List ℕ)) → is_space octet ≡ false → AreClean words → AreClean (before_part octet words)
+    of_words [] other are = ((other, tt), tt)
+    of_words (word ∷ words) other are = ((other, are.0), are.1)
+
+    of_test : (test : Bool) → (octet == space) ≡ test → (words : List (List ℕ)) → AreClean words → AreClean (if test then [] ∷ words else before_part octet words)
+    of_test true is words are = (tt, are)
+    of_test false is words are = of_words words is are
+
+word_clean : (words : List (List ℕ)) (n : ℕ) → AreClean words → IfSome (slice_get words n) HasNoBlank
+word_clean [] n are = tt
+word_clean (word ∷ words) zero are = are.0
+word_clean (word ∷ words) (suc n) are = word_clean words n are.1
 
 file_ok : (event number : ℕ) (text : List ℕ) → IfOk (said_word some_word event number text) (λ word. (1 ≤ length word) × HasNoBlank word)
 unfolding word_at
-file_ok event number text = of_word (word_after (number - 1) text) (word_clean (number - 1) text)
+file_ok event number text = of_word (slice_get (words_of text) (number - 1)) (word_clean (words_of text) (number - 1) (words_clean text))
   where
     of_test : (test : Bool) (word : List ℕ) → nat_lt 0 (length word) ≡ test → HasNoBlank word
         → IfOk (found (BadWord event number) (if test then Some word else None)) (λ w. (1 ≤ length w) × HasNoBlank w)
@@ -152,36 +163,8 @@ abbrev IsSaidEvent : Plan → Event → Type 0
 IsSaidEvent plan event = IsEventOf plan event × IsEventInRange event
 
 module _ (plan : Plan) (number : ℕ) (text : List ℕ) where
-  edge_word : (at : ℕ) → IfOk (said_word (place_in (edge_names plan.edges)) number at text) (λ place. place < length plan.edges)
-  edge_word at = said_ok _ (place_in (edge_names plan.edges)) (row_ok (λ row. row.name) plan.edges) number at text
-
   circuit_word : (at : ℕ) → IfOk (said_word (place_in (circuit_names plan.circuits)) number at text) (λ place. place < length plan.circuits)
   circuit_word at = said_ok _ (place_in (circuit_names plan.circuits)) (row_ok (λ row. row.name) plan.circuits) number at text
-
-  wire_word : (at : ℕ) → IfOk (said_word (place_in (wire_names plan.wires)) number at text) (λ place. place < length plan.wires)
-  wire_word at = said_ok _ (place_in (wire_names plan.wires)) (row_ok (λ row. row.name) plan.wires) number at text
-
-  number_word : (low high at : ℕ) → IfOk (said_word (decimal_from low high) number at text) (λ n. (low ≤ n) × (n ≤ high))
-  number_word low high at = said_ok _ (decimal_from low high) (number_ok low high) number at text
-
-  connect_ok : IfOk (connect_in (names_of plan) number text) (IsSaidEvent plan)
-  unfolding connect_in
-  connect_ok = if_ok _ (said_word (place_in (edge_names plan.edges)) number 2 text) _ (edge_word 2) (λ a p. if_ok _ (said_word (place_in (edge_names plan.edges)) number 3 text) _ (edge_word 3) (λ b q.
-      if_any _ (ends_before number 4 text) _ (λ end. ((p, q), tt))))
-
-  deliver_ok : IfOk (deliver_in (names_of plan) number text) (IsSaidEvent plan)
-  unfolding deliver_in
-  deliver_ok = if_ok _ (said_word (place_in (edge_names plan.edges)) number 2 text) _ (edge_word 2) (λ a p. if_ok _ (said_word (place_in (edge_names plan.edges)) number 3 text) _ (edge_word 3) (λ b q.
-      if_ok _ (said_word (decimal_from 1 65535) number 4 text) _ (number_word 1 65535 4) (λ n r. if_any _ (ends_before number 5 text) _ (λ end. ((p, q), r)))))
-
-  lose_ok : IfOk (lose_in (names_of plan) number text) (IsSaidEvent plan)
-  unfolding lose_in
-  lose_ok = if_ok _ (said_word (place_in (edge_names plan.edges)) number 2 text) _ (edge_word 2) (λ a p. if_ok _ (said_word (place_in (edge_names plan.edges)) number 3 text) _ (edge_word 3) (λ b q.
-      if_any _ (ends_before number 4 text) _ (λ end. ((p, q), tt))))
-
-  restart_ok : IfOk (restart_in (names_of plan) number text) (IsSaidEvent plan)
-  unfolding restart_in
-  restart_ok = if_ok _ (said_word (place_in (edge_names plan.edges)) number 2 text) _ (edge_word 2) (λ a p. if_any _ (ends_before number 3 text) _ (λ end. (p, tt)))
 
   frame_event_ok : IfOk (frame_event_in (names_of plan) number text) (IsSaidEvent plan)
   unfolding frame_event_in
@@ -189,39 +172,21 @@ module _ (plan : Plan) (number : ℕ) (text : List ℕ) where
       (λ a p. if_ok _ (said_word frame_of number 3 text) _ (said_ok _ frame_of frame_ok number 3 text) (λ octets w.
       if_any _ (ends_before number 4 text) _ (λ end. ((p, omega (arith, w.few)), w))))
 
-  packet_ok : IfOk (packet_in number text) IsPacket
-  unfolding packet_in
-  packet_ok = if_ok _ (said_word (decimal_from 1 (2 ^ 64 - 1)) number 2 text) _ (number_word 1 (2 ^ 64 - 1) 2) (λ n r. if_any _ (ends_before number 3 text) _ (λ end. (r.0, omega (arith, r.1))))
-
-  wire_ok : IfOk (wire_switch_in (names_of plan) number text) (IsSaidEvent plan)
-  unfolding wire_switch_in
-  wire_ok = if_ok _ (said_word (place_in (edge_names plan.edges)) number 2 text) _ (edge_word 2) (λ a p. if_ok _ (said_word (place_in (wire_names plan.wires)) number 3 text) _ (wire_word 3) (λ b q.
-      if_any _ (said_word switch_of number 4 text) _ (λ on. if_any _ (ends_before number 5 text) _ (λ end. ((p, q), tt)))))
-
-  switch_ok : IfOk (circuit_switch_in (names_of plan) number text) (IsSaidEvent plan)
-  unfolding circuit_switch_in
-  switch_ok = if_ok _ (said_word (place_in (circuit_names plan.circuits)) number 2 text) _ (circuit_word 2)
-      (λ a p. if_any _ (said_word switch_of number 3 text) _ (λ on. if_any _ (ends_before number 4 text) _ (λ end. (p, tt))))
-
-  status_ok : IfOk (status_in (names_of plan) number text) (IsSaidEvent plan)
-  unfolding status_in
-  status_ok = if_ok _ (said_word (place_in (edge_names plan.edges)) number 2 text) _ (edge_word 2) (λ a p. if_ok _ (said_word (place_in (wire_names plan.wires)) number 3 text) _ (wire_word 3) (λ b q.
-      if_ok _ (said_word (decimal_from 0 31) number 4 text) _ (number_word 0 31 4) (λ n r. if_any _ (ends_before number 5 text) _ (λ end. ((p, q, r.1), tt)))))
-
-  priority_ok : IfOk (priority_event_in (names_of plan) number text) (IsSaidEvent plan)
-  unfolding priority_event_in
-  priority_ok = if_ok _ (said_word (place_in (edge_names plan.edges)) number 2 text) _ (edge_word 2)
-      (λ a p. if_ok _ (said_word (place_in (wire_names plan.wires)) number 3 text) _ (wire_word 3) (λ b q.
-      if_ok _ (said_word (decimal_from 0 255) number 4 text) _ (number_word 0 255 4) (λ n r. if_any _ (ends_before number 5 text) _ (λ end. ((p, q), r.1)))))
-
-  ping_ok : IfOk (ping_in (names_of plan) number text) (IsSaidEvent plan)
-  unfolding ping_in
-  ping_ok = if_ok _ (said_word (place_in (edge_names plan.edges)) number 2 text) _ (edge_word 2) (λ a p. if_ok _ (said_word (place_in (wire_names plan.wires)) number 3 text) _ (wire_word 3) (λ b q.
-      if_any _ (ends_before number 4 text) _ (λ end. ((p, q), tt))))
+  row_event_ok : IfOk (row_event_in plan number text) (IsSaidEvent plan)
+  unfolding row_event_in
+  row_event_ok = of_read (line_said plan event_forms (words_of text)) refl
+    where
+      of_read : (r : Result (ℕ × List ℕ) ℕ) → line_said plan event_forms (words_of text) ≡ r → IfOk (event_by number r) (IsSaidEvent plan)
+      of_read (Ok read) is =
+          let within : read.0 < 13 = line_within plan event_forms (words_of text) read is in
+          let fit = line_fit plan event_forms (words_of text) read is in
+          (row_planned plan read.0 read.1 within fit, row_in_range plan read.0 read.1 within fit)
+      of_read (Err word) is = tt
 
   repeats_ok : IfOk (repeats_in number text) IsCount
   unfolding repeats_in
-  repeats_ok = if_ok _ (said_word (decimal_from 1 10000) number 2 text) _ (number_word 1 10000 2) (λ n r. if_any _ (ends_before number 3 text) _ (λ end. r))
+  repeats_ok = if_ok _ (said_word (decimal_from 1 10000) number 2 text) _ (said_ok _ (decimal_from 1 10000) (number_ok 1 10000) number 2 text)
+      (λ n r. if_any _ (ends_before number 3 text) _ (λ end. r))
 
 -- a command of either kind
 of_if : (P : Command → Type 0) (test : Bool) (a b : Result Command ScenarioFault) → IfOk a P → IfOk b P → IfOk (if test then a else b) P
@@ -250,33 +215,18 @@ module _ (plan : Plan) (number plays : ℕ) (text : List ℕ) where
       if_ok _ (said_word (place_in (circuit_names plan.circuits)) number 2 text) _ (circuit_word plan number text 2) (λ circuit p.
       if_ok _ (said_word some_word number 3 text) _ (file_ok number 3 text) (λ file is. if_any _ (ends_before number 4 text) _ (λ end. (p, is_few, is.0, is.1)))))
 
-  packet_one : (make : ℕ → Event) → ((packet : ℕ) → IsPacket packet → IsSaidEvent plan (make packet)) → IfOk (packet_in number text >>= (λ packet. Ok (One (make packet)))) (IsSaidCommand plan plays)
-  packet_one make said = if_ok _ (packet_in number text) _ (packet_ok plan number text) (λ packet is. said packet is)
-
-  command_ok : (word : List ℕ) → IfOk (command_of (names_of plan) number plays word text) (IsSaidCommand plan plays)
-  unfolding command_of packet_command part_command many_of
+  command_ok : (word : List ℕ) → IfOk (command_of plan number plays word text) (IsSaidCommand plan plays)
+  unfolding command_of
   command_ok word =
-      of_if _ (bytes_eq word (codes "connect")) _ _ (one_ok (connect_in (names_of plan) number text) (connect_ok plan number text))
-      (of_if _ (bytes_eq word (codes "deliver")) _ _ (one_ok (deliver_in (names_of plan) number text) (deliver_ok plan number text))
-      (of_if _ (bytes_eq word (codes "lose")) _ _ (one_ok (lose_in (names_of plan) number text) (lose_ok plan number text))
-      (of_if _ (bytes_eq word (codes "restart")) _ _ (one_ok (restart_in (names_of plan) number text) (restart_ok plan number text))
+      of_if _ (bytes_eq word (codes "frame")) _ _ (one_ok (frame_event_in (names_of plan) number text) (frame_event_ok plan number text))
       (of_if _ (bytes_eq word (codes "tick")) _ _ tick_ok
-      (of_if _ (bytes_eq word (codes "frame")) _ _ (one_ok (frame_event_in (names_of plan) number text) (frame_event_ok plan number text))
-      (of_if _ (bytes_eq word (codes "arrive")) _ _ (packet_one Arrive (λ packet is. (tt, is)))
-      (of_if _ (bytes_eq word (codes "drop")) _ _ (packet_one Discard (λ packet is. (tt, is)))
-      (of_if _ (bytes_eq word (codes "again")) _ _ (packet_one Again (λ packet is. (tt, is)))
-      (of_if _ (bytes_eq word (codes "wire")) _ _ (one_ok (wire_switch_in (names_of plan) number text) (wire_ok plan number text))
-      (of_if _ (bytes_eq word (codes "circuit")) _ _ (one_ok (circuit_switch_in (names_of plan) number text) (switch_ok plan number text))
-      (of_if _ (bytes_eq word (codes "status")) _ _ (one_ok (status_in (names_of plan) number text) (status_ok plan number text))
-      (of_if _ (bytes_eq word (codes "priority")) _ _ (one_ok (priority_event_in (names_of plan) number text) (priority_ok plan number text))
-      (of_if _ (bytes_eq word (codes "ping")) _ _ (one_ok (ping_in (names_of plan) number text) (ping_ok plan number text))
       (of_if _ (bytes_eq word (codes "settle")) _ _ (if_ok _ (repeats_in number text) _ (repeats_ok plan number text) (λ count is. is))
       (of_if _ (bytes_eq word (codes "flow")) _ _ (if_ok _ (repeats_in number text) _ (repeats_ok plan number text) (λ count is. is))
-      (of_if _ (bytes_eq word (codes "play")) _ _ play_ok tt))))))))))))))))
+      (of_if _ (bytes_eq word (codes "play")) _ _ play_ok (one_ok (row_event_in plan number text) (row_event_ok plan number text))))))
 
 -- the commands of items
-pub commands_said : (plan : Plan) (number plays : ℕ) (items : Items) → IfOk (commands_in (names_of plan) number plays items) (AreSaidCommands plan plays)
+pub commands_said : (plan : Plan) (number plays : ℕ) (items : Items) → IfOk (commands_in plan number plays items) (AreSaidCommands plan plays)
 commands_said plan number plays no_items = tt
 commands_said plan number plays (item value rest) =
-    if_ok _ (event_in (names_of plan) number plays value) _ (if_any _ (found _ (as_str value)) _ (λ text. command_ok plan number plays text (first_word text))) (λ command is.
-    if_ok _ (commands_in (names_of plan) (number + 1) (plays_after plays command) rest) _ (commands_said plan (number + 1) (plays_after plays command) rest) (λ commands are. (is, are)))
+    if_ok _ (event_in plan number plays value) _ (if_any _ (found _ (as_str value)) _ (λ text. command_ok plan number plays text (first_word text))) (λ command is.
+    if_ok _ (commands_in plan (number + 1) (plays_after plays command) rest) _ (commands_said plan (number + 1) (plays_after plays command) rest) (λ commands are. (is, are)))

@@ -7,7 +7,6 @@ use Rattle.net_base.specs.declared.plan.table.Table.{Table}
 use Rattle.net_base.specs.declared.plan.table.Table.TheVariants as kind
 use Rattle.command_text.specs.Events.{commands_in, most_events}
 use Rattle.command_text.specs.Places.{top_row}
-use Rattle.plan_names.specs.Planned.{names_of}
 use Rattle.scenario_text.specs.declared.document_version.DocumentVersion.TheVariants.{Two}
 use Rattle.scenario_text.specs.Keys.{is_known_key}
 use Rattle.scenario_text.specs.Values.{all_items, an_array, is_string, defaulted}
@@ -184,6 +183,6 @@ module _ (plan : Plan) (events : Items) where
 
   -- the document is the plan with its events
   pub scenario_read : IsReadPlan plan → all_items is_string events ≡ true → items_length events ≤ most_events
-      → scenario_in (top_table plan events) ≡ scenario_with plan (commands_in (names_of plan) 1 0 events)
+      → scenario_in (top_table plan events) ≡ scenario_with plan (commands_in plan 1 0 events)
   unfolding scenario_in
   scenario_read is strings many = rw (arrays_read is strings many, rows_of_plan is) refl

@@ -7,7 +7,7 @@ use Rattle.net_base.specs.plan.Planned.{IsEventOf}
 use Rattle.command_text.specs.declared.command.Command.{Command}
 use Rattle.command_text.specs.declared.command.Command.TheVariants.{One, Settle, Flow, Ticks, Play}
 use Rattle.command_text.specs.Events.{commands_in, plays_after}
-use Rattle.plan_names.specs.Planned.{HasNames, names_of}
+use Rattle.plan_names.specs.Planned.{HasNames}
 use Rattle.command_text.specs.Planned.{IsCount}
 use Rattle.command_text.specs.Words.{is_space}
 use Rattle.event_laws.specs.Law.{IsEventInRange}
@@ -31,4 +31,4 @@ AreSaidCommands plan plays (command ∷ commands) = IsSaidCommand plan plays com
 
 abbrev pub ReadsMigratedCommands : Type 0
 ReadsMigratedCommands = (plan : Plan) (commands : List Command) → HasNames plan → AreSaidCommands plan 0 commands
-    → commands_in (names_of plan) 1 0 (items_of (event_items plan commands)) ≡ Ok commands
+    → commands_in plan 1 0 (items_of (event_items plan commands)) ≡ Ok commands

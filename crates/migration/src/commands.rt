@@ -2,7 +2,7 @@
 ghost use Rattle.std.specs.{Prelude.{◌≡◌, ◌∷◌, ◌++◌, [], map, string_bytes, IfOk, OnOk}, List.{All}, Str.{IsUtf8}};
 ghost use Rattle.toml.specs.View.{view};
 ghost use Rattle.plan_names.specs.Planned.{HasNames};
-ghost use Rattle.event_laws.specs.Law.{joined_words};
+ghost use Rattle.script_text.specs.Script.{spaced_words};
 ghost use Rattle.text_lines.specs.Lines.{word_octets};
 ghost use Rattle.text_pieces.specs.Pieces.{spaced};
 ghost use Rattle.migration.specs.{Commands.{command_text, event_items}, Sayable.{IsSayable}};
@@ -49,7 +49,7 @@ fn put_spaced(text: &mut Vec<u8>, words: &[LineWord<'_>]) -> Result<(), NoMemory
 // The octets of words, parted by one blank.
 #[tactic(auto, using(crate::proofs::TextLemmas::joined_first, crate::proofs::TextLemmas::joined_none))]
 fn joined(alloc: Global, words: &[LineWord<'_>]) -> Result<Vec<u8>, NoMemory>
-    ensures { IfOk result (λ text. text.items ≡ joined_words (map word_octets words.now)) }
+    ensures { IfOk result (λ text. text.items ≡ spaced_words (map word_octets words.now)) }
 {
     let mut text = Vec::new(alloc);
     let Some((first, rest)) = words.split_first() else {
@@ -62,8 +62,8 @@ fn joined(alloc: Global, words: &[LineWord<'_>]) -> Result<Vec<u8>, NoMemory>
 
 // The words as a text, parted by one blank.
 fn line(alloc: Global, words: &[LineWord<'_>]) -> Result<String, NoMemory>
-    requires { IsUtf8 (joined_words (map word_octets words.now)) }
-    ensures { IfOk result (λ t. string_bytes t ≡ joined_words (map word_octets words.now)) }
+    requires { IsUtf8 (spaced_words (map word_octets words.now)) }
+    ensures { IfOk result (λ t. string_bytes t ≡ spaced_words (map word_octets words.now)) }
 {
     let text = joined(alloc, words)?;
     Ok(String::from_utf8(text).unwrap())

@@ -10,7 +10,6 @@ use Rattle.command_text.specs.declared.scenario_fault.ScenarioFault.{ScenarioFau
 use Rattle.command_text.specs.declared.scenario_fault.ScenarioFault.TheVariants.{NotToml}
 use Rattle.command_text.specs.Reading.{◌>>=◌}
 use Rattle.command_text.specs.Events.{commands_in}
-use Rattle.plan_names.specs.Planned.{names_of}
 use Rattle.scenario_text.specs.declared.scenario.Scenario.{Scenario}
 use Rattle.scenario_text.specs.Rows.{edge_in, service_in, group_row_in, circuit_row_in, wire_row_in, rows_in}
 use Rattle.scenario_text.specs.Top.{Arrays, arrays_in}
@@ -35,7 +34,7 @@ unfoldable pub scenario_in : Members → Result Scenario ScenarioFault
 scenario_in ms = do
   arrays ← arrays_in ms
   plan ← plan_in arrays
-  scenario_with plan (commands_in (names_of plan) 1 0 arrays.events)
+  scenario_with plan (commands_in plan 1 0 arrays.events)
 
 -- the scenario of the table that a text is
 abbrev pub scenario_or : Option Members → Result Scenario ScenarioFault

@@ -2,7 +2,6 @@
 ghost use Rattle.std.specs.{Prelude.{◌≡◌, ◌≤◌, length, IfOk}, List.{All}};
 ghost use Rattle.net_base.specs.plan.Accepted.{IsWithinLimits, IsChecked};
 ghost use Rattle.toml.specs.{Parse.{parse_document}, View.{items_view, table_view}};
-ghost use Rattle.plan_names.specs.Planned.{names_of};
 ghost use Rattle.command_text.specs.{Events.{commands_in, most_events}, Reading.{Gives}, Planned.{IsPlanned}};
 ghost use Rattle.scenario_text.specs.{Arrays.{arrays_of, HasLimits}, Document.{plan_in, scenario_in, scenario_or, document}};
 
@@ -21,7 +20,6 @@ use std::alloc::Global;
 use toml::{Table, Value};
 
 // The commands at a plan.
-#[tactic(auto, using(crate::proofs::DocumentLemmas::planned_all))]
 fn plan_commands(
     alloc: Global,
     plan: &Plan,
@@ -29,14 +27,14 @@ fn plan_commands(
 ) -> Result<List<Command>, ScenarioFault>
     requires limits { IsWithinLimits plan.now }
     requires few { length events.items ≤ most_events }
-    ensures exact { Gives result (commands_in (names_of plan.now) 1 0 (items_view events.items)) }
+    ensures exact { Gives result (commands_in plan.now 1 0 (items_view events.items)) }
     ensures many { IfOk result (λ commands. length commands ≡ length events.items) }
     ensures planned { IfOk result (λ commands. All (IsPlanned plan.now) commands) }
 {
     let lists = NameLists::of(alloc, plan)?;
     match lists.indexed(alloc) {
         Ok(names) => {
-            let commands = read_commands(alloc, &names, events);
+            let commands = read_commands(alloc, plan, &names, events);
             drop(names);
             commands
         }

@@ -1,6 +1,6 @@
 //! One command.
 ghost use Rattle.std.specs.Prelude.{◌≡◌, IfOk};
-ghost use Rattle.net_base.specs.{declared.plan.Plan.{Plan}, plan.Accepted.{IsChecked}};
+ghost use Rattle.net_base.specs.plan.Accepted.{IsChecked};
 ghost use Rattle.plan_names.specs.Planned.{names_of};
 ghost use Rattle.command_text.specs.{Events.{command_in}, Planned.{IsPlanned}};
 ghost use Rattle.scenario_text.specs.WordReading.{ReadsWords};
@@ -15,16 +15,17 @@ use std::alloc::Global;
 /// word that is missing, one too many, or not what has to stand there.
 ///
 /// The names are indexed once for any number of commands, so that a script is read in a time that grows with its length alone.
-#[tactic(auto, using(crate::proofs::DocumentLemmas::planned_one))]
 pub fn read_command_with(
     alloc: Global,
+    plan: &Plan,
     names: &PlanNames<'_>,
     words: &str,
 ) -> Result<Command, WordFault>
-    ensures exact { ReadsWords result (command_in names.now 1 0 words.now) }
-    ensures planned { (plan : Plan) → names.now ≡ names_of plan → IfOk result (IsPlanned plan) }
+    requires names { names.now ≡ names_of plan.now }
+    ensures exact { ReadsWords result (command_in plan.now 1 0 words.now) }
+    ensures planned { IfOk result (IsPlanned plan.now) }
 {
-    match read_one(alloc, names, words) {
+    match read_one(alloc, plan, names, words) {
         Ok(command) => Ok(command),
         Err(ScenarioFault::BadWord { word, .. }) => Err(WordFault::Bad(word)),
         Err(_) => Err(WordFault::NoMemory),
@@ -35,7 +36,7 @@ pub fn read_command_with(
 /// what has to stand there.
 pub fn read_command(alloc: Global, plan: &Plan, words: &str) -> Result<Command, WordFault>
     requires { IsChecked plan.now }
-    ensures exact { ReadsWords result (command_in (names_of plan.now) 1 0 words.now) }
+    ensures exact { ReadsWords result (command_in plan.now 1 0 words.now) }
     ensures planned { IfOk result (IsPlanned plan.now) }
 {
     let Ok(lists) = NameLists::of(alloc, plan) else {
@@ -43,7 +44,7 @@ pub fn read_command(alloc: Global, plan: &Plan, words: &str) -> Result<Command, 
     };
     match lists.indexed(alloc) {
         Ok(names) => {
-            let command = read_command_with(alloc, &names, words);
+            let command = read_command_with(alloc, plan, &names, words);
             drop(names);
             command
         }
