@@ -4,6 +4,7 @@ ghost use Rattle.command_text.specs.Places.{masked};
 ghost use Rattle.vplsnet.specs.FaultText.{table_name, place_words, plan_fault_name, plan_fault_place, fault_words};
 ghost use Rattle.text_pieces.specs.Pieces.{spaced};
 
+use command_text::mask;
 use net_base::{NoMemory, Place, PlanFault, Table};
 use scenario_text::ScenarioFault;
 use text_pieces::{put_number_word, put_text, put_word};
@@ -52,19 +53,9 @@ fn put_printed(text: &mut Vec<u8>, octets: &[u8]) -> Result<(), NoMemory>
     ensures { OnOk result (text.new.items ≡ text.old.items ++ map masked octets.now) }
 {
     for octet in octets {
-        text.push(printed(*octet))?;
+        text.push(mask(*octet))?;
     }
     Ok(())
-}
-
-fn printed(octet: u8) -> u8
-    ensures { result ≡ masked octet }
-{
-    if octet < 0x21 || octet > 0x7E {
-        b'?'
-    } else {
-        octet
-    }
 }
 
 fn table_text(table: Table) -> &'static str
