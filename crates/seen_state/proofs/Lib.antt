@@ -2,8 +2,6 @@ pub mod CalmLemmas
 pub mod CopyLemmas
 pub mod NumberedLemmas
 pub mod OpenLemmas
-pub mod PairLemmas
 pub mod PeerEndLemmas
-pub mod PlaceLemmas
 pub mod RowLemmas
 pub mod SeenEdgesLemmas

@@ -5,8 +5,9 @@ use Rattle.std.proofs.lemmas.Bool.Decides.{nat_tests}
 use Rattle.std.specs.BTreeMap.{is_at}
 use Rattle.std.specs.Map.{lookup}
 use Rattle.std.specs.Ordering.{nat_cmp}
-use Rattle.seen_state.specs.Numbered.{Places, Values, has_place, or_other, placed_at, value_at}
-use Rattle.seen_state.proofs.PlaceLemmas.{placed_past}
+use Rattle.numbered_row.specs.Places.{Places, has_place, placed_at}
+use Rattle.numbered_row.proofs.PlaceLemmas.{placed_past}
+use Rattle.seen_state.specs.Numbered.{Values, or_other, value_at}
 
 same_number : (a x : ℕ) → is_at (nat_cmp a) x ≡ (x == a)
 same_number a x = grind (arith, nat_tests)

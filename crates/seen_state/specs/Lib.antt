@@ -1,6 +1,5 @@
 pub mod Calm
 pub mod Copies
-pub mod EdgePairs
 pub mod Numbered
 pub mod PeerEnd
 pub mod Placed

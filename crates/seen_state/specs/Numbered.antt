@@ -1,32 +1,9 @@
 -- Values by numbers.
-use Rattle.std.specs.Prelude.{◌&&◌, ◌==◌, ◌+◌, ◌-◌, nat_le, nat_lt, ℕ, Bool, true, false, List, [], ◌∷◌, Option, Some, None, length, if◌then◌else◌}
+use Rattle.std.specs.Prelude.{ℕ, [], List, Option, Some, None}
 use Rattle.std.specs.BTreeMap.{is_at}
 use Rattle.std.specs.Map.{lookup}
 use Rattle.std.specs.Ordering.{nat_cmp}
-
--- places in a row, each of a number
-pub record Places (V : Type 0) : Type 0 where
-  -- the number of the first place
-  pub first : ℕ
-  pub places : List (Option V)
-
--- the number has a place
-abbrev pub has_place : {V : Type 0} → Places V → ℕ → Bool
-has_place row number = nat_le row.first number && nat_lt (number - row.first) (length row.places)
-
--- the value at the place of a number, where the first place is that of this one
-abbrev pub value_placed : {V : Type 0} → ℕ → List (Option V) → ℕ → Option V
-value_placed first [] number = None
-value_placed first (place ∷ places) number = if number == first then place else value_placed (first + 1) places number
-
-abbrev pub placed_at : {V : Type 0} → Places V → ℕ → Option V
-placed_at row number = value_placed row.first row.places number
-
--- the first place has no value
-abbrev pub starts_vacant : {V : Type 0} → List (Option V) → Bool
-starts_vacant [] = false
-starts_vacant (None ∷ places) = true
-starts_vacant (Some value ∷ places) = false
+use Rattle.numbered_row.specs.Places.{Places, placed_at}
 
 pub record Values (V : Type 0) : Type 0 where
   pub row : Places V

@@ -6,14 +6,11 @@
 
 mod calm;
 mod copies;
-mod edge_pairs;
 mod numbered;
 mod peer_end;
-mod row;
 mod seen_edge;
 mod seen_edges;
 mod seen_state;
-mod service_edges;
 mod sizes;
 mod whole_pdu;
 

@@ -2,8 +2,8 @@
 ghost use Rattle.std.specs.Prelude.{◌≡◌, ◌==◌, ◌≤◌, ◌+◌, ℕ, Some, None, length, OnErr, OnOk, if◌then◌else◌};
 ghost use Rattle.seen_state.specs.Numbered.{no_values, value_at};
 
-use crate::row::Row;
 use net_base::NoMemory;
+use numbered_row::Row;
 use std::alloc::Global;
 use std::collections::BTreeMap;
 use std::marker::Model;
@@ -44,7 +44,7 @@ impl<V: Copy> Numbered<V> {
         ensures { result ≡ value_at self.now number }
     {
         match self.row.get(number) {
-            Some(value) => Some(value),
+            Some(value) => Some(*value),
             None => self.others.get(&number).copied(),
         }
     }
