@@ -1,5 +1,5 @@
 -- Commands that were read can be said.
-use Rattle.std.proofs.Common.{◌≡◌, ◌<◌, ◌≤◌, ◌+◌, ◌-◌, ◌*◌, ◌&&◌, nat_le, nat_lt, ℕ, zero, suc, Bool, true, false, cond, List, [], ◌∷◌, length, map, Option, Some, None, is_some, option_and_then, option_map, Result, Ok, Err, IfOk, IfSome, codes, leb-true, refl, subst, arith, if◌then◌else◌}
+use Rattle.std.proofs.Common.{◌≡◌, ◌<◌, ◌≤◌, ◌+◌, ◌-◌, ◌*◌, ◌&&◌, ◌==◌, nat_le, nat_lt, ℕ, zero, suc, Bool, true, false, cond, List, [], ◌∷◌, length, map, slice_get, Option, Some, None, is_some, option_and_then, option_map, Result, Ok, Err, IfOk, IfSome, codes, leb-true, refl, subst, arith, if◌then◌else◌}
 use Rattle.std.proofs.lemmas.Bool.{and_parts}
 use Rattle.std.proofs.lemmas.Bool.Decides.{Decides-ltb}
 use Rattle.std.proofs.lemmas.List.{length-map}
@@ -141,7 +141,8 @@ words_clean (octet ∷ rest) = of_test (octet == space) refl (words_of rest) (wo
     of_test false is words are = of_words words is are
 
 word_clean : (words : List (List ℕ)) (n : ℕ) → AreClean words → IfSome (slice_get words n) HasNoBlank
-word_clean [] n are = tt
+word_clean [] zero are = tt
+word_clean [] (suc n) are = tt
 word_clean (word ∷ words) zero are = are.0
 word_clean (word ∷ words) (suc n) are = word_clean words n are.1
 
