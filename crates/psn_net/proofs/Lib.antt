@@ -2,6 +2,7 @@ pub mod AbsorbLemmas
 pub mod AgeLemmas
 pub mod AnswerLemmas
 pub mod BroughtLemmas
+pub mod ByNumberLemmas
 pub mod CalmLemmas
 pub mod CarryingLemmas
 pub mod ConnectionLemmas
@@ -12,7 +13,6 @@ pub mod LinkLemmas
 pub mod NetworkLemmas
 pub mod PacketLemmas
 pub mod PairLemmas
-pub mod RingLemmas
 pub mod RunLemmas
 pub mod TellingLemmas
 pub mod TickLemmas

@@ -1,6 +1,5 @@
 pub mod Applying
 pub mod ByNumber
-pub mod Calm
 pub mod Carrying
 pub mod DeliveryIndex
 pub mod Lists

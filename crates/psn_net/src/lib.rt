@@ -13,7 +13,6 @@ mod packets;
 mod pair_index;
 mod parts;
 mod psn_link;
-mod ring;
 mod sending;
 mod shared_plan;
 mod trail;

@@ -7,15 +7,13 @@ ghost use Rattle.network_model.specs.{Absorb.{begin_at, taken_all}, State.{edge_
 ghost use Rattle.psn_net.specs.{Lists.{HasDriven, HasRoom, HasStepped, KeepsNetwork, network_seen}, Weight.{may_send, stop_at, weight_of}};
 
 mod absorb;
-mod calm;
 mod carrying;
 mod connections;
 mod events;
-mod full;
 mod lookups;
 mod opening;
 mod packets;
-mod quiet;
+mod planned;
 
 use crate::NetStop;
 use crate::ledger::Ledger;

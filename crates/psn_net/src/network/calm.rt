@@ -4,6 +4,7 @@ ghost use Rattle.network_model.specs.Calm.{is_calm, is_full, is_quiet};
 ghost use Rattle.psn_net.specs.Lists.{network_seen};
 
 use crate::Network;
+use calm_services::{is_calm, is_full, is_quiet};
 use net_base::ServiceId;
 
 impl Network {
@@ -12,7 +13,7 @@ impl Network {
     pub fn is_quiet(&self, service: ServiceId) -> bool
         ensures { result ≡ is_quiet self.now.plan (network_seen self.now) service }
     {
-        self.parts.is_quiet(service)
+        is_quiet(&self.parts, service)
     }
 
     /// Whether a service is full: each two core edges of it have a mesh wire of it that forwards at both ends (RFC 4762 section
@@ -21,7 +22,7 @@ impl Network {
     pub fn is_full(&self, service: ServiceId) -> bool
         ensures { result ≡ is_full self.now.plan (network_seen self.now) service }
     {
-        self.parts.is_full(service)
+        is_full(&self.parts, service)
     }
 
     /// Whether a service is calm: it is quiet and full, and each edge that starts a spoke of it has exactly one spoke that forwards
@@ -29,6 +30,6 @@ impl Network {
     pub fn is_calm(&self, service: ServiceId) -> bool
         ensures { result ≡ is_calm self.now.plan (network_seen self.now) service }
     {
-        self.parts.is_calm(service)
+        is_calm(&self.parts, service)
     }
 }

@@ -6,7 +6,7 @@ ghost use Rattle.network_model.specs.State.{stands};
 ghost use Rattle.psn_net.specs.Lists.{network_seen};
 
 use crate::parts::Parts;
-use net_base::{EdgeId, WirePlan};
+use net_base::EdgeId;
 
 impl Parts {
     /// How many edges the plan has.
@@ -16,15 +16,6 @@ impl Parts {
         ensures checked { IsChecked self.now.plan }
     {
         self.plan.edges.len()
-    }
-
-    /// The wires of the plan, at most 1,024.
-    pub fn wires(&self) -> &[WirePlan]
-        ensures wires { result.now ≡ self.now.plan.wires }
-        ensures checked { IsChecked self.now.plan }
-        ensures few { length result.now ≤ 1024 }
-    {
-        self.plan.wires.as_slice()
     }
 
     /// An edge's end of its connection with a peer stands.

@@ -2,7 +2,7 @@ use Rattle.std.proofs.Common.{◌≡◌, ◌∙◌, List, ℕ, subst, sym}
 use Rattle.psn_net.specs.declared.carried.Carried.{Carried}
 use Rattle.psn_net.specs.Packets.{ArePacketsKept, IsIndex}
 use Rattle.psn_net.proofs.PacketLemmas.{found_young, index_removed, still_kept}
-use Rattle.psn_net.proofs.RingLemmas.{removed_none}
+use Rattle.psn_net.proofs.ByNumberLemmas.{removed_none}
 use Rattle.psn_net.proofs.packets.Packets.take.Goals as goal
 
 pub into_packet-requires-clause-sent : goal.into_packet-requires-clause-sent
