@@ -11,11 +11,11 @@ use Rattle.script_text.specs.declared.script_fault.ScriptFault.{ScriptFault}
 use Rattle.script_text.specs.declared.script_fault.ScriptFault.TheVariants.{Bad}
 use Rattle.script_text.specs.Script.{spaced_words}
 use Rattle.line_shapes.specs.Script.{made_at}
-use Rattle.line_shapes.specs.Shapes.{Form, form, line_said, nth_value}
+use Rattle.line_shapes.specs.Shapes.{first_said, Form, form, line_said, nth_value}
 use Rattle.line_shapes.specs.declared.kind.Kind.TheVariants.{Edge, Number}
 use Rattle.discovery_script.specs.declared.script_line.ScriptLine.{ScriptLine}
 use Rattle.discovery_script.specs.declared.script_line.ScriptLine.TheVariants as line
-use Rattle.script_words.specs.Reading.{first_of, script_said}
+use Rattle.script_text.specs.Lines.{script_said}
 
 -- the rows
 abbrev pub discovery_forms : List Form
@@ -59,7 +59,7 @@ do_in plan number words = said_behind plan number (spaced_words (drop 1 words))
 -- a line by its words
 unfoldable pub discovery_line_of : Plan → ℕ → List (List ℕ) → Result ScriptLine ScriptFault
 discovery_line_of plan number words =
-    if bytes_eq (first_of words) (codes "do") then do_in plan number words else made_at discovery_made number (line_said plan discovery_forms words)
+    if bytes_eq (first_said words) (codes "do") then do_in plan number words else made_at discovery_made number (line_said plan discovery_forms words)
 
 -- the lines that octets are, or the first place that is wrong
 unfoldable pub discovery_lines_in : Plan → List ℕ → Result (List ScriptLine) ScriptFault

@@ -9,11 +9,10 @@ ghost use Rattle.script_text.specs.Reading.{GivesScript};
 use crate::script_line::ScriptLine;
 use command_text::is_same;
 use line_shapes::Kind::{Edge, Number};
-use line_shapes::{Shape, Values, read_shaped};
+use line_shapes::{NumberedLine, Shape, Values, read_shaped};
 use net_base::Plan;
 use scenario_text::{WordFault, read_command_with};
 use script_text::{ScriptFault, first};
-use script_words::NumberedLine;
 use std::alloc::Global;
 
 // The shape of each line but `do`.

@@ -7,14 +7,14 @@ ghost use Rattle.script_text.specs.Reading.{GivesScript};
 
 use crate::lines::read_line;
 use crate::script_line::ScriptLine;
+use line_shapes::NumberedLine;
 use net_base::{List, NoMemory, Plan};
 use plan_names::{NameLists, PlanNames};
 use script_text::{ScriptFault, read_lines};
-use script_words::NumberedLine;
 use std::alloc::Global;
 
 // The lines of a script, by the names of its plan.
-#[tactic(auto, unfolding(crate::specs::Lines::discovery_lines_in, script_words::specs::Reading::script_said), using(script_words::proofs::CountLemmas::few_lines))]
+#[tactic(auto, unfolding(crate::specs::Lines::discovery_lines_in, script_text::specs::Lines::script_said), using(script_text::proofs::CountLemmas::few_lines))]
 fn read_with(
     alloc: Global,
     plan: &Plan,

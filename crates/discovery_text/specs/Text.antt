@@ -5,7 +5,7 @@ use Rattle.net_base.specs.declared.plan.Plan.{Plan}
 use Rattle.net_base.specs.declared.trace.entry.Entry.{Entry}
 use Rattle.report_text.specs.declared.ending.Ending.{Ending}
 use Rattle.report_text.specs.Report.{entry_lines, last_line}
-use Rattle.report_text.specs.Words.{edge_name}
+use Rattle.line_shapes.specs.Words.{edge_name}
 use Rattle.text_lines.specs.Lines.{line_of}
 use Rattle.text_pieces.specs.Pieces.{hex}
 use Rattle.discovery_script.specs.declared.note.Note.{Note}

@@ -1,13 +1,13 @@
 //! The line of a note.
 ghost use Rattle.std.specs.{Prelude.{◌≡◌, ◌∷◌, [], codes, map}, Fmt.{decimal}};
-ghost use Rattle.report_text.specs.Words.{edge_name};
+ghost use Rattle.line_shapes.specs.Words.{edge_name};
 ghost use Rattle.text_lines.specs.{Lines.{word_octets}, Written.{PutsOn}};
 ghost use Rattle.text_pieces.specs.Pieces.{hex};
 ghost use Rattle.discovery_text.specs.Text.{note_line};
 
 use discovery_script::Note;
+use line_shapes::edge_word;
 use net_base::{EdgeId, Failed, Plan, Sink};
-use report_text::edge_word;
 use text_lines::{LineWord, Page};
 
 // A Hello by its number, with its octets.

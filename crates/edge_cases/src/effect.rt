@@ -1,10 +1,10 @@
 //! The line of what an edge gives out.
 
 use edge_model::Effect;
-use net_base::{Failed, Plan, Sink};
-use report_text::{
+use line_shapes::{
     arrival_word, cause_text, circuit_word, edge_word, state_text, wire_end_text, wire_word,
 };
+use net_base::{Failed, Plan, Sink};
 use text_lines::{LineWord, Page};
 
 /// Puts the line; none for a connection that is closed.

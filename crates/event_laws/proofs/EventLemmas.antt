@@ -13,8 +13,9 @@ use Rattle.net_base.specs.plan.Planned.{IsEventOf}
 use Rattle.plan_names.specs.Names.{place_in}
 use Rattle.plan_names.specs.Planned.{HasNames}
 use Rattle.plan_names.proofs.BelowLemmas.{all_below, below_at}
-use Rattle.report_text.specs.Named.{IsNamedEvent}
-use Rattle.report_text.specs.Words.{circuit_name, event_words}
+use Rattle.event_rows.specs.Named.{IsNamedEvent}
+use Rattle.line_shapes.specs.Words.{circuit_name}
+use Rattle.event_rows.specs.Rows.{event_words}
 use Rattle.text_pieces.specs.Pieces.{hex}
 use Rattle.command_text.specs.Words.{word_at}
 use Rattle.script_text.specs.Parts.{parted_by}

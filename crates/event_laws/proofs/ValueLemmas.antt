@@ -8,10 +8,10 @@ use Rattle.std.proofs.lemmas.Bool.Decides.{nat_tests}
 use Rattle.std.proofs.lemmas.Fmt.{digits_decimal}
 use Rattle.hex.specs.Hex.{encode_with, lower_digits}
 use Rattle.net_values.specs.Name.{IsName, is_name_octet_of}
-use Rattle.report_text.specs.Choices.{choice_word, choice_words}
-use Rattle.report_text.specs.declared.choice.Choice.{Choice}
-use Rattle.report_text.specs.declared.choice.Choice.TheVariants.{Switch, Cause, End, State}
-use Rattle.report_text.specs.Words.{name_or_empty}
+use Rattle.line_shapes.specs.Choices.{choice_word, choice_words}
+use Rattle.line_shapes.specs.declared.choice.Choice.{Choice}
+use Rattle.line_shapes.specs.declared.choice.Choice.TheVariants.{Switch, Cause, End, State}
+use Rattle.line_shapes.specs.Words.{name_or_empty}
 use Rattle.script_text.specs.Script.{is_graphic}
 use Rattle.script_text.proofs.PartLemmas.{AreWhole, IsWhole}
 use Rattle.plan_names.specs.Decimal.{is_digit_of}

@@ -5,7 +5,7 @@ use Rattle.net_base.specs.declared.trace.event.Event.{Event}
 use Rattle.net_base.specs.declared.trace.event.Event.TheVariants.{Connect, Deliver, Lose, Restart, Tick, Frame, Arrive, Discard, Again, Wire, Circuit, Status, Priority, Ping}
 use Rattle.net_base.specs.plan.Planned.{IsEventOf}
 use Rattle.std.specs.List.{All}
-use Rattle.report_text.specs.Words.{event_words}
+use Rattle.event_rows.specs.Rows.{event_words}
 use Rattle.plan_names.specs.Planned.{HasNames}
 use Rattle.script_text.specs.Script.{spaced_words}
 use Rattle.command_text.specs.Events.{command_in}

@@ -7,11 +7,11 @@ use Rattle.net_base.specs.declared.trace.event.Event.{Event}
 use Rattle.net_base.specs.declared.trace.event.Event.TheVariants as event
 use Rattle.net_base.specs.plan.Planned.{IsEventOf}
 use Rattle.plan_names.proofs.BelowLemmas.{all_below, below_at}
-use Rattle.report_text.specs.Choices.{choice_word, choice_words, switch_place}
-use Rattle.report_text.specs.declared.choice.Choice.{Choice}
-use Rattle.report_text.specs.declared.choice.Choice.TheVariants as choice
-use Rattle.report_text.specs.Named.{IsNamedEvent}
-use Rattle.report_text.specs.Words.{event_words}
+use Rattle.line_shapes.specs.Choices.{choice_word, choice_words, switch_place}
+use Rattle.line_shapes.specs.declared.choice.Choice.{Choice}
+use Rattle.line_shapes.specs.declared.choice.Choice.TheVariants as choice
+use Rattle.event_rows.specs.Named.{IsNamedEvent}
+use Rattle.event_rows.specs.Rows.{event_words}
 use Rattle.line_shapes.specs.Shapes.{AreValuesOf, form_at, row_words, nth_value, value_word}
 use Rattle.line_shapes.specs.declared.kind.Kind.TheVariants as kind
 use Rattle.line_shapes.proofs.TableLemmas.{AllBelow, IsRow, below_all}

@@ -1,9 +1,14 @@
--- The events that lines tell: a row for each, and the event that its values make. Their numbers are in the ranges in which a scenario writes them.
+-- The events that lines tell: a row for each, the event that its values make, and the values of an event. Their numbers are in the ranges in which a scenario
+-- writes them.
 use Rattle.std.specs.Prelude.{◌==◌, codes, ℕ, List, [], ◌∷◌, if◌then◌else◌}
+use Rattle.net_base.specs.declared.plan.Plan.{Plan}
 use Rattle.net_base.specs.declared.trace.event.Event.{Event}
 use Rattle.net_base.specs.declared.trace.event.Event.TheVariants as event
-use Rattle.report_text.specs.declared.choice.Choice.TheVariants.{Switch}
-use Rattle.line_shapes.specs.Shapes.{Form, form, nth_value}
+use Rattle.line_shapes.specs.declared.choice.Choice.TheVariants.{Switch}
+use Rattle.text_pieces.specs.Pieces.{hex}
+use Rattle.line_shapes.specs.Choices.{switch_place}
+use Rattle.line_shapes.specs.Shapes.{Form, form, form_at, nth_value, row_words}
+use Rattle.line_shapes.specs.Words.{circuit_name}
 use Rattle.line_shapes.specs.declared.kind.Kind.TheVariants.{Edge, Circuit, Wire, Number, OneOf}
 
 -- the rows
@@ -40,3 +45,25 @@ event_made row v =
     else if row == 10 then event.Status (record { 0 = nth_value 0 v }) (record { 0 = nth_value 1 v }) (nth_value 2 v)
     else if row == 11 then event.Priority (record { 0 = nth_value 0 v }) (record { 0 = nth_value 1 v }) (nth_value 2 v)
     else event.Ping (record { 0 = nth_value 0 v }) (record { 0 = nth_value 1 v })
+
+-- the row of an event, and its values; a frame has no row, since its octets are no number
+abbrev pub event_apart : Event → ℕ × List ℕ
+event_apart (event.Deliver from to count) = (0, from.0 ∷ to.0 ∷ count ∷ [])
+event_apart (event.Arrive packet) = (1, packet ∷ [])
+event_apart (event.Discard packet) = (2, packet ∷ [])
+event_apart (event.Again packet) = (3, packet ∷ [])
+event_apart (event.Connect from to) = (4, from.0 ∷ to.0 ∷ [])
+event_apart (event.Lose edge peer) = (5, edge.0 ∷ peer.0 ∷ [])
+event_apart (event.Restart edge) = (6, edge.0 ∷ [])
+event_apart event.Tick = (7, [])
+event_apart (event.Wire edge wire on) = (8, edge.0 ∷ wire.0 ∷ switch_place on ∷ [])
+event_apart (event.Circuit circuit on) = (9, circuit.0 ∷ switch_place on ∷ [])
+event_apart (event.Status edge wire bits) = (10, edge.0 ∷ wire.0 ∷ bits ∷ [])
+event_apart (event.Priority edge wire priority) = (11, edge.0 ∷ wire.0 ∷ priority ∷ [])
+event_apart (event.Ping edge wire) = (12, edge.0 ∷ wire.0 ∷ [])
+event_apart (event.Frame circuit octets) = (13, [])
+
+-- the words of an event, as a scenario writes it and a report tells it
+abbrev pub event_words : Plan → Event → List (List ℕ)
+event_words plan (event.Frame circuit octets) = codes "frame" ∷ circuit_name plan circuit ∷ hex octets ∷ []
+event_words plan event = row_words plan (form_at event_forms (event_apart event).0) (event_apart event).1

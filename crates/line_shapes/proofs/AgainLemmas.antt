@@ -12,9 +12,9 @@ use Rattle.std.specs.Str.{bytes_eq}
 use Rattle.net_base.specs.declared.plan.Plan.{Plan}
 use Rattle.plan_names.specs.Names.{place_in}
 use Rattle.plan_names.specs.Decimal.{decimal_from, is_decimal, is_digit_of, value_from}
-use Rattle.report_text.specs.Choices.{choice_word, choice_words}
-use Rattle.report_text.specs.declared.choice.Choice.{Choice}
-use Rattle.report_text.specs.Words.{name_or_empty, wire_name}
+use Rattle.line_shapes.specs.Choices.{choice_word, choice_words}
+use Rattle.line_shapes.specs.declared.choice.Choice.{Choice}
+use Rattle.line_shapes.specs.Words.{name_or_empty, wire_name}
 use Rattle.plan_names.proofs.DecimalLemmas.{numerals}
 use Rattle.line_shapes.proofs.NameLemmas.{row_name}
 use Rattle.line_shapes.specs.Laws.{AreKinds, IsKind, WrittenAsRead}

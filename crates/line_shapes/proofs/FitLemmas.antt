@@ -10,7 +10,7 @@ use Rattle.net_base.specs.plan.NameFaults.{edge_names, circuit_names, wire_names
 use Rattle.plan_names.specs.Names.{place_in}
 use Rattle.plan_names.specs.Decimal.{is_decimal, value_from}
 use Rattle.plan_names.proofs.NameLemmas.{place_within}
-use Rattle.report_text.specs.Choices.{choice_words}
+use Rattle.line_shapes.specs.Choices.{choice_words}
 use Rattle.line_shapes.specs.declared.kind.Kind.{Kind}
 use Rattle.line_shapes.specs.declared.kind.Kind.TheVariants.{Edge, Circuit, Wire, Between, Number, OneOf}
 use Rattle.line_shapes.specs.Shapes.{◌>>=◌, AreValuesOf, Form, IsFit, between_two, form_at, word_found, has_two_edges, line_said, row_of_word, first_said, value_in, values_said}

@@ -7,9 +7,9 @@ use Rattle.net_base.specs.declared.plan.Plan.{Plan}
 use Rattle.net_values.proofs.RowLemmas.{same_octets}
 use Rattle.plan_names.specs.Planned.{HasNames}
 use Rattle.plan_names.specs.Names.{place_in}
-use Rattle.report_text.specs.Choices.{choice_word, choice_words}
-use Rattle.report_text.specs.declared.choice.Choice.{Choice}
-use Rattle.report_text.specs.declared.choice.Choice.TheVariants.{Switch, Cause, End, State}
+use Rattle.line_shapes.specs.Choices.{choice_word, choice_words}
+use Rattle.line_shapes.specs.declared.choice.Choice.{Choice}
+use Rattle.line_shapes.specs.declared.choice.Choice.TheVariants.{Switch, Cause, End, State}
 use Rattle.plan_names.proofs.BelowLemmas.{all_below, below_at}
 use Rattle.plan_names.proofs.DecimalLemmas.{number_said}
 use Rattle.line_shapes.proofs.NameLemmas.{row_said}

@@ -4,7 +4,7 @@ use Rattle.std.proofs.lemmas.List.{length-map}
 use Rattle.plan_names.specs.Names.{place_in}
 use Rattle.plan_names.specs.Planned.{AreNames}
 use Rattle.plan_names.proofs.NameLemmas.{place_found}
-use Rattle.report_text.specs.Words.{name_or_empty}
+use Rattle.line_shapes.specs.Words.{name_or_empty}
 
 pub row_name : {Y : Type 0} (f : Y → List ℕ) (rows : List Y) (i : ℕ) → i < length rows → name_or_empty (option_map f (slice_get rows i)) ≡ get_or (map f rows) i []
 row_name f [] i lt = absurd (omega arith)

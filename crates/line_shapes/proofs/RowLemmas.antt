@@ -7,7 +7,7 @@ use Rattle.std.proofs.lemmas.Bool.Decides.{nat_tests}
 use Rattle.std.proofs.lemmas.List.{length-map}
 use Rattle.std.proofs.lemmas.Slice.Eq.{bytes_eq-Decides}
 use Rattle.plan_names.specs.Names.{place_in}
-use Rattle.line_shapes.specs.Shapes.{AreShort, form_at, form_of, has_word, row_of_word}
+use Rattle.line_shapes.specs.Shapes.{AreShort, form_at, form_of, has_word, no_form, row_of_word}
 use Rattle.line_shapes.specs.declared.shape.Shape.{Shape}
 
 -- the form of the row at which a shape stands
@@ -21,6 +21,12 @@ pub short_row : (shapes : List Shape) (row : ℕ) (none : Shape) → row < lengt
 short_row [] row none lt short = absurd (omega (arith, lt))
 short_row (shape ∷ shapes) zero none lt short = short.0
 short_row (shape ∷ shapes) (suc row) none lt short = short_row shapes row none (omega (arith, lt)) short.1
+
+-- no row stands behind the last one
+pub no_row : (shapes : List Shape) (row : ℕ) → length shapes ≤ row → no_form ≡ form_at (map form_of shapes) row
+no_row [] row past = refl
+no_row (shape ∷ shapes) zero past = absurd (omega (arith, past))
+no_row (shape ∷ shapes) (suc row) past = no_row shapes row (omega (arith, past))
 
 same_place : {X Y : Type 0} (f : Y → X) (test : X → Bool) (rows : List Y) → position_or_len (λ (y : Y). test (f y)) rows ≡ position_or_len test (map f rows)
 same_place f test [] = refl

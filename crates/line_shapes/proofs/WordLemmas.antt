@@ -50,3 +50,8 @@ pub words_all : (plan : Plan) (kinds : List Kind) (values : List ℕ) (place : �
     → front ++ value_words plan (drop place kinds) values ≡ whole → front ≡ whole
 words_all plan kinds values place front whole past same =
     sym (no_more front) ∙ (ap (λ (l : List (List ℕ)). front ++ l) (sym (at_drop_all (λ (k : List Kind). value_words plan k values) kinds place past)) ∙ same)
+
+-- the words behind the first one
+pub behind_first : (words : List LineWord) → map word_octets (drop 1 words) ≡ drop 1 (map word_octets words)
+behind_first [] = refl
+behind_first (word ∷ words) = refl

@@ -7,8 +7,8 @@ use Rattle.net_base.specs.declared.plan.wire_plan.WirePlan.{WirePlan}
 use Rattle.net_base.specs.plan.NameFaults.{edge_names, circuit_names, wire_names}
 use Rattle.plan_names.specs.Names.{place_in}
 use Rattle.plan_names.specs.Decimal.{decimal_from}
-use Rattle.report_text.specs.Choices.{choice_word, choice_words}
-use Rattle.report_text.specs.Words.{edge_name, circuit_name, wire_name}
+use Rattle.line_shapes.specs.Choices.{choice_word, choice_words}
+use Rattle.line_shapes.specs.Words.{edge_name, circuit_name, wire_name}
 use Rattle.line_shapes.specs.declared.kind.Kind.{Kind}
 use Rattle.line_shapes.specs.declared.kind.Kind.TheVariants.{Edge, Circuit, Wire, Between, Number, OneOf}
 use Rattle.line_shapes.specs.declared.shape.Shape.{Shape}

@@ -1,6 +1,6 @@
 //! What words say.
 
-use report_text::Choice;
+use crate::choice::Choice;
 
 /// What a word behind the first one of a line says.
 #[derive(Clone, Copy, Debug, PartialEq, Eq)]

@@ -5,19 +5,33 @@
 #![tactic(auto)]
 
 mod choice;
+mod choice_values;
 mod kind;
 mod laws;
+mod names;
+mod numbered_line;
+mod page_lines;
 mod reader;
 mod shape;
+mod shaped_words;
 mod values;
 mod words;
 mod writer;
 
-pub use choice::{is_word, place_of};
+pub use choice::{Choice, is_word, place_of};
+pub use choice_values::{
+    cause_at, cause_place, state_at, state_place, switch_place, wire_end_at, wire_end_place,
+};
 pub use kind::Kind;
 pub use laws::{read_what_is_written, written_as_read};
+pub use names::{
+    arrival_text, arrival_word, cause_text, circuit_text, circuit_word, edge_text, edge_word,
+    state_text, wire_end_text, wire_text, wire_word,
+};
+pub use numbered_line::NumberedLine;
+pub use page_lines::{put_done_row, put_row};
 pub use reader::{read_shaped, shape_at};
 pub use shape::Shape;
+pub use shaped_words::ShapedWords;
 pub use values::Values;
 pub use words::Words;
-pub use writer::{SHAPED, shaped_words};

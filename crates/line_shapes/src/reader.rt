@@ -136,14 +136,16 @@ fn row(shapes: &[Shape<'_>], word: &[u8]) -> Option<usize>
     place_of_word(shapes, word)
 }
 
-/// The shape of a row.
-#[tactic(auto, using(crate::proofs::RowLemmas::at_row, crate::proofs::RowLemmas::short_row))]
+/// The shape of a row; behind the last one, that of the empty word.
+#[tactic(auto, using(crate::proofs::RowLemmas::at_row, crate::proofs::RowLemmas::short_row, crate::proofs::RowLemmas::no_row))]
 pub fn shape_at<'a>(shapes: &[Shape<'a>], row: usize) -> Shape<'a>
-    requires within { row < length shapes.now }
-    requires few { AreShort (map form_of shapes.now) }
+    requires { AreShort (map form_of shapes.now) }
     ensures form { form_of result ≡ form_at (map form_of shapes.now) row }
     ensures short { length result.1.now ≤ 3 }
 {
+    if row >= shapes.len() {
+        return Shape(&[], &[]);
+    }
     shapes[row]
 }
 

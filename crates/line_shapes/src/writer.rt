@@ -3,61 +3,29 @@ ghost use Rattle.std.specs.Prelude.{◌≡◌, ◌≤◌, ◌+◌, length, map, 
 ghost use Rattle.line_shapes.specs.Shapes.{form_of, row_words, value_word, value_words};
 ghost use Rattle.text_lines.specs.Lines.{word_octets};
 
+use crate::choice::word_of;
 use crate::kind::Kind;
+use crate::names::{circuit_at, edge_at, wire_at};
 use crate::shape::Shape;
 use crate::values::Values;
 use net_base::Plan;
-use report_text::word_of;
 use text_lines::LineWord;
-
-/// The most words of a line of a shape.
-pub const SHAPED: usize = 4;
-
-// The name of an edge; empty outside the plan.
-fn edge(plan: &Plan, place: usize) -> &[u8]
-    ensures { result.now ≡ value_word plan.now Kind.Edge place }
-{
-    match plan.edges.get(place) {
-        Some(row) => row.name.as_slice(),
-        None => &[],
-    }
-}
-
-// The name of a circuit, in the same way.
-fn circuit(plan: &Plan, place: usize) -> &[u8]
-    ensures { result.now ≡ value_word plan.now Kind.Circuit place }
-{
-    match plan.circuits.get(place) {
-        Some(row) => row.name.as_slice(),
-        None => &[],
-    }
-}
-
-// The name of a wire, in the same way.
-fn wire(plan: &Plan, place: usize) -> &[u8]
-    ensures { result.now ≡ value_word plan.now Kind.Wire place }
-{
-    match plan.wires.get(place) {
-        Some(row) => row.name.as_slice(),
-        None => &[],
-    }
-}
 
 // The word of a value.
 fn word(plan: &Plan, kind: Kind, value: u64) -> LineWord<'_>
     ensures { word_octets result ≡ value_word plan.now kind value }
 {
     match kind {
-        Kind::Edge => LineWord::Text(edge(plan, value as usize)),
-        Kind::Circuit => LineWord::Text(circuit(plan, value as usize)),
-        Kind::Wire | Kind::Between => LineWord::Text(wire(plan, value as usize)),
+        Kind::Edge => LineWord::Text(edge_at(plan, value as usize)),
+        Kind::Circuit => LineWord::Text(circuit_at(plan, value as usize)),
+        Kind::Wire | Kind::Between => LineWord::Text(wire_at(plan, value as usize)),
         Kind::Number(_, _) => LineWord::Number(value),
         Kind::OneOf(choice) => LineWord::Text(word_of(choice, value).as_bytes()),
     }
 }
 
-/// Puts the words of a line into room, and tells how many they are. A place outside the plan is written as the empty text.
-pub fn shaped_words<'a>(
+/// Writes the words of a line into room, and tells how many they are. A place outside the plan is written as the empty text.
+pub fn write_words<'a>(
     plan: &'a Plan,
     shape: Shape<'a>,
     values: &Values,

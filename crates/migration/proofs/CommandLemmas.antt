@@ -4,7 +4,7 @@ use Rattle.std.specs.Fmt.{decimal}
 use Rattle.toml.specs.View.{items_of}
 use Rattle.net_base.specs.declared.plan.Plan.{Plan}
 use Rattle.net_base.specs.plan.NameFaults.{circuit_names}
-use Rattle.report_text.specs.Words.{circuit_name}
+use Rattle.line_shapes.specs.Words.{circuit_name}
 use Rattle.command_text.specs.declared.command.Command.{Command}
 use Rattle.command_text.specs.declared.command.Command.TheVariants.{One, Settle, Flow, Ticks, Play}
 use Rattle.plan_names.specs.Planned.{HasNames}

@@ -14,7 +14,7 @@ use Rattle.command_text.specs.declared.row_place.RowPlace.{RowPlace}
 use Rattle.plan_names.specs.Names.{place_in}
 use Rattle.scenario_text.specs.References.{group_in, group_names, groups_differ, number_at, without_repeat}
 use Rattle.migration.specs.Groups.{group_name}
-use Rattle.report_text.specs.Words.{name_or_empty}
+use Rattle.line_shapes.specs.Words.{name_or_empty}
 use Rattle.migration.proofs.GroupNameLemmas.{group_apart}
 use Rattle.migration.proofs.OfferLemmas.{use_of}
 use Rattle.migration.proofs.RowLemmas.{group_of}

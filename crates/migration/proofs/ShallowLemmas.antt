@@ -10,7 +10,7 @@ use Rattle.net_base.specs.declared.plan.circuit_plan.CircuitPlan.{CircuitPlan}
 use Rattle.net_base.specs.declared.plan.wire_plan.WirePlan.{WirePlan}
 use Rattle.net_base.specs.declared.plan.offer.Offer.{Offer}
 use Rattle.command_text.specs.declared.command.Command.{Command}
-use Rattle.report_text.specs.Words.{edge_name}
+use Rattle.line_shapes.specs.Words.{edge_name}
 use Rattle.migration.specs.Tables.{put}
 use Rattle.migration.proofs.DepthLemmas.{put_depth, told_depth, some_depth, rows_depth, texts_depth}
 use Rattle.migration.specs.Commands.{command_text, event_items}

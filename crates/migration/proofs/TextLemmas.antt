@@ -11,7 +11,8 @@ use Rattle.net_base.specs.declared.plan.Plan.{Plan}
 use Rattle.net_base.specs.declared.plan.places.CircuitId.{CircuitId}
 use Rattle.net_base.specs.declared.trace.event.Event.{Event}
 use Rattle.net_base.specs.plan.Planned.{IsEventOf}
-use Rattle.report_text.specs.Words.{circuit_name, event_words}
+use Rattle.line_shapes.specs.Words.{circuit_name}
+use Rattle.event_rows.specs.Rows.{event_words}
 use Rattle.plan_names.specs.Planned.{HasNames}
 use Rattle.event_laws.specs.Law.{IsEventInRange}
 use Rattle.event_laws.proofs.EventLemmas.{event_graphic}

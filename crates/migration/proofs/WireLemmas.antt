@@ -20,7 +20,7 @@ use Rattle.scenario_text.specs.Keys.{is_known_key}
 use Rattle.scenario_text.specs.Values.{a_name, a_number, a_class, a_path, all_items, is_string, names_in}
 use Rattle.scenario_text.specs.Rows.{a_table, circuit_row_in, ends_by_tables, wire_row_in}
 use Rattle.migration.proofs.KeyLemmas.{put_same, put_keys, told_keys, all_keys}
-use Rattle.report_text.specs.Words.{edge_name}
+use Rattle.line_shapes.specs.Words.{edge_name}
 use Rattle.migration.specs.Rows.{number, name_of_service, class_name, offer_table, circuit_table, ends_table, wire_table}
 use Rattle.migration.specs.ReadPlan.{IsSaid}
 use Rattle.migration.proofs.ReadLemmas.{skip, needed_is, defaulted_is, optional_is, name_is, number_is, class_is, known}

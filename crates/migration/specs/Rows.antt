@@ -12,7 +12,7 @@ use Rattle.net_base.specs.declared.plan.wire_plan.Class.{Class}
 use Rattle.net_base.specs.declared.plan.wire_plan.Class.TheVariants.{Mesh, Spoke}
 use Rattle.net_base.specs.declared.plan.offer.Offer.{Offer}
 use Rattle.net_base.specs.declared.plan.places.ServiceId.{ServiceId}
-use Rattle.report_text.specs.Words.{name_or_empty, edge_name}
+use Rattle.line_shapes.specs.Words.{name_or_empty, edge_name}
 use Rattle.migration.specs.Tables.{put, put_told}
 use Rattle.migration.specs.Groups.{group_name}
 

@@ -9,8 +9,9 @@ ghost use Rattle.migration.specs.{Commands.{command_text, event_items}, Sayable.
 
 use crate::items::push_text;
 use command_text::Command;
+use event_rows::words_of_event;
+use line_shapes::circuit_word;
 use net_base::{NoMemory, Plan};
-use report_text::{circuit_word, words_of_event};
 use std::alloc::Global;
 use text_lines::LineWord;
 use text_pieces::{put_digits, put_number, put_text};

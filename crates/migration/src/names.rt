@@ -1,6 +1,6 @@
 //! Names and fixed words as texts.
 ghost use Rattle.std.specs.Prelude.{◌≡◌};
-ghost use Rattle.report_text.specs.Words.{edge_name};
+ghost use Rattle.line_shapes.specs.Words.{edge_name};
 ghost use Rattle.migration.specs.Rows.{class_name, mode_name, name_of_service};
 
 use net_base::{Class, EdgeId, Name, Plan, ServiceId};

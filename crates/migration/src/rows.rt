@@ -1,7 +1,7 @@
 //! Rows as tables.
 ghost use Rattle.std.specs.{Prelude.{◌≡◌, map, string_bytes, IfOk}, List.{All}, Net.Text.{ipv4_text}};
 ghost use Rattle.toml.specs.{Data.{string, table}, View.{view, table_view}};
-ghost use Rattle.report_text.specs.Words.{edge_name};
+ghost use Rattle.line_shapes.specs.Words.{edge_name};
 ghost use Rattle.migration.specs.Rows.{edge_table, service_table, group_table, circuit_table, ends_table, wire_table};
 ghost use Rattle.migration.specs.Sayable.{HasTexts};
 

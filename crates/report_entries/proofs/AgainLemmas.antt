@@ -1,5 +1,5 @@
 -- What is read of a line is the entry of which it is the line: no two words say the same.
-use Rattle.std.proofs.Common.{◌≡◌, ◌≤◌, ◌++◌, ◌∙◌, ℕ, zero, suc, codes, Bool, true, false, List, [], ◌∷◌, Option, Some, None, Result, IfSome, cond, length, nat_eq, nat_le, option_map, unwrap_or, is_some, refl, sym, ap, subst, arith, append_assoc}
+use Rattle.std.proofs.Common.{◌≡◌, ◌≤◌, ◌++◌, ◌∙◌, ℕ, zero, suc, codes, Bool, true, false, List, [], ◌∷◌, Option, Some, None, Result, IfOk, IfSome, cond, length, nat_eq, nat_le, option_map, unwrap_or, is_some, refl, sym, ap, subst, arith, append_assoc}
 use Rattle.std.proofs.lemmas.Slice.Eq.{bytes_eq-Decides}
 use Rattle.std.specs.Fmt.{decimal}
 use Rattle.std.specs.Str.{bytes_eq}
@@ -17,14 +17,17 @@ use Rattle.plan_names.specs.Planned.{names_of}
 use Rattle.text_pieces.specs.Pieces.{hex}
 use Rattle.text_lines.specs.Lines.{line_of}
 use Rattle.report_text.specs.Report.{entry_line, entry_words}
-use Rattle.report_text.specs.Words.{arrival_name, circuit_name, edge_name, event_words, wire_name}
-use Rattle.report_text.specs.Named.{AreOctetsTold}
+use Rattle.line_shapes.specs.Words.{arrival_name, circuit_name, edge_name, wire_name}
+use Rattle.event_rows.specs.Rows.{event_words}
+use Rattle.event_rows.specs.Named.{AreOctetsTold}
+use Rattle.report_text.specs.Named.{IsEntryNamed}
 use Rattle.report_entries.specs.declared.passed.Carried.{Carried}
 use Rattle.report_entries.specs.declared.passed.Passed.{Passed}
 use Rattle.report_entries.specs.declared.unread.Unread.{Unread}
 use Rattle.octet_text.specs.Cut.{before_mark, behind_mark}
 use Rattle.report_entries.specs.Cut.{line_words, words_within}
-use Rattle.report_entries.specs.Entries.{carried_in, did_in, entered_in, entry_forms, entry_made, exact, left_in, line_entry, passed_in, row_entry, said_in, sent_in, told_entry_in, told_entry_of, words_entry}
+use Rattle.report_text.specs.Rows.{entry_forms, entry_made}
+use Rattle.report_entries.specs.Entries.{carried_in, did_in, entered_in, exact, left_in, line_entry, passed_in, row_entry, said_in, sent_in, told_entry_in, told_entry_of, words_entry}
 use Rattle.event_rows.specs.Rows.{event_forms, event_made}
 use Rattle.report_entries.specs.Events.{event_told, frame_told, of_record_size, row_event}
 use Rattle.report_entries.specs.Reading.{◌>>=◌, Reads, arrival_in, circuit_of_word, digits_told, edge_of_word, number_in, wire_of_word}
@@ -35,7 +38,7 @@ use Rattle.event_rows.proofs.RowLemmas.{EventRow, event_rows}
 use Rattle.report_entries.proofs.RowLemmas.{EntryRow, entry_rows}
 use Rattle.report_entries.proofs.DigitLemmas.{octets_again}
 use Rattle.report_entries.proofs.FoundLemmas.{few_words}
-use Rattle.report_entries.proofs.NamedLemmas.{by_word, mapped, then, weaker}
+use Rattle.report_entries.proofs.NamedLemmas.{by_word, mapped, named_result, then, weaker}
 use Rattle.report_entries.proofs.TraceLemmas.{cut_joined}
 
 -- ---- words
@@ -231,3 +234,6 @@ pub reads_line_of : (plan : Plan) (line : List ℕ) (words : List (List ℕ)) (r
     → Reads result (words_entry plan words) → Reads result (line_entry plan line)
 unfolding told_entry_in
 reads_line_of plan line words result cut reads = subst (Reads result) (ap (words_entry plan) cut ∙ sym (line_told plan line)) reads
+
+pub names_places : (plan : Plan) (line : List ℕ) (words : List (List ℕ)) (result : Result Entry Unread) → words ≡ line_words line → Reads result (words_entry plan words) → IfOk result (IsEntryNamed plan)
+names_places plan line words result cut reads = named_result plan line result (reads_line_of plan line words result cut reads)

@@ -1,7 +1,6 @@
 pub mod AgainLemmas
 pub mod ApartLemmas
 pub mod BeginLemmas
-pub mod CountLemmas
 pub mod CutLemmas
 pub mod DigitLemmas
 pub mod FoundLemmas

@@ -1,5 +1,5 @@
 -- The words of an entry have no blank and no line feed.
-use Rattle.std.proofs.Common.{◌≡◌, ◌<◌, ◌≤◌, ◌/◌, ◌%◌, ◌^◌, ◌&&◌, ℕ, zero, suc, codes, Bool, true, List, [], ◌∷◌, length, map, count_by, ◌++◌, get_or, slice_get, slice_index, option_map, nat_le, refl, arith, inl, inr, subst, sym}
+use Rattle.std.proofs.Common.{◌≡◌, ◌<◌, ◌≤◌, ◌/◌, ◌%◌, ◌^◌, ◌&&◌, ℕ, zero, suc, codes, Bool, true, List, [], ◌∷◌, length, map, ◌++◌, get_or, slice_get, slice_index, option_map, nat_le, refl, arith, inl, inr, subst, sym}
 use Rattle.std.proofs.lemmas.List.{length-map}
 use Rattle.std.specs.Fmt.{decimal}
 use Rattle.std.specs.List.{list_all}
@@ -22,31 +22,34 @@ use Rattle.net_base.specs.declared.trace.event.Event.{Event}
 use Rattle.net_values.specs.Name.{IsName, is_name_octet_of}
 use Rattle.plan_names.specs.Decimal.{is_digit_of}
 use Rattle.text_pieces.specs.Pieces.{hex}
-use Rattle.std.proofs.lemmas.List.Sums.{count_by-le-length}
 use Rattle.report_text.specs.declared.ending.Ending.{Ending}
 use Rattle.report_text.specs.declared.ending.Ending.TheVariants.{End, Crowded, TooMuch}
-use Rattle.report_text.specs.declared.last_line.Counted.TheVariants as counted
-use Rattle.report_text.specs.Report.{entry_words, is_counted, last_words}
+use Rattle.report_text.specs.declared.counts.Counts.{Counts}
+use Rattle.report_text.specs.Counted.{AreWithin, counts_behind, no_counts}
+use Rattle.report_text.specs.Report.{entry_words, last_words}
+use Rattle.report_text.proofs.CountLemmas.{counts_within}
 use Rattle.report_text.specs.Read.{IsEnding}
-use Rattle.report_text.specs.Words.{arrival_name, circuit_name, edge_name, event_words, name_or_empty, wire_name}
+use Rattle.line_shapes.specs.Words.{arrival_name, circuit_name, edge_name, name_or_empty, wire_name}
+use Rattle.event_rows.specs.Rows.{event_words}
 use Rattle.plan_names.specs.Planned.{AreNames, HasNames}
 use Rattle.line_shapes.specs.Laws.{AreKinds, IsKind, have_kinds}
 use Rattle.line_shapes.specs.Shapes.{AreValuesOf, Form, IsFit, first_value, form_at, value_word, value_words, values_behind}
 use Rattle.line_shapes.specs.declared.kind.Kind.{Kind}
 use Rattle.line_shapes.specs.declared.kind.Kind.TheVariants as kind
 use Rattle.line_shapes.proofs.TableLemmas.{IsRow, are_kinds}
-use Rattle.report_entries.specs.Entries.{entry_forms, entry_made}
+use Rattle.report_text.specs.Rows.{entry_forms, entry_made}
 use Rattle.event_rows.specs.Rows.{event_forms, event_made}
 use Rattle.event_rows.proofs.RowLemmas.{event_row}
 use Rattle.report_entries.proofs.RowLemmas.{aged_told, copied_told, down_told, dropped_told, idle_told, pong_told, session_told}
 use Rattle.plan_names.proofs.BelowLemmas.{all_below, below_at}
 use Rattle.plan_names.proofs.DecimalLemmas.{numerals}
 use Rattle.line_shapes.proofs.NameLemmas.{row_name}
-use Rattle.report_text.specs.Choices.{choice_word, choice_words}
-use Rattle.report_text.specs.declared.choice.Choice.{Choice}
-use Rattle.report_text.specs.declared.choice.Choice.TheVariants as choice
+use Rattle.line_shapes.specs.Choices.{choice_word, choice_words}
+use Rattle.line_shapes.specs.declared.choice.Choice.{Choice}
+use Rattle.line_shapes.specs.declared.choice.Choice.TheVariants as choice
 use Rattle.read_lines.specs.Plain.{HasWords, IsPlain, IsPlainLine, is_plain}
-use Rattle.report_text.specs.Named.{AreOctetsTold, IsArrival, IsCircuit, IsNamedEdge, IsEntryNamed, IsNamedEvent, IsToldNumber, IsWire}
+use Rattle.event_rows.specs.Named.{AreOctetsTold, IsCircuit, IsNamedEdge, IsNamedEvent, IsToldNumber, IsWire}
+use Rattle.report_text.specs.Named.{IsArrival, IsEntryNamed}
 
 plain_by : (test : ℕ → Bool) → ((c : ℕ) → test c ≡ true → is_plain c ≡ true) → (word : List ℕ) → list_all test word ≡ true → IsPlain word
 plain_by test none [] e = tt
@@ -174,27 +177,24 @@ plain_append : (a b : List ℕ) → IsPlain a → IsPlain b → IsPlain (a ++ b)
 plain_append [] b first next = next
 plain_append (c ∷ cs) b first next = (first.0, plain_append cs b first.1 next)
 
-counted_plain : (label : List ℕ) (test : Entry → Bool) (trace : List Entry) → list_all is_plain label ≡ true → length trace < 2 ^ 64 → IsPlain (label ++ decimal (count_by test trace))
-counted_plain label test trace plain few =
-    let most : count_by test trace ≤ length trace = count_by-le-length test trace in
-    plain_append label (decimal (count_by test trace)) (all_plain label plain) (number_plain (count_by test trace) (omega (arith, most, few)))
+counted_plain : (label : List ℕ) (count most : ℕ) → list_all is_plain label ≡ true → count ≤ most → most < 2 ^ 64 → IsPlain (label ++ decimal count)
+counted_plain label count most plain within few = plain_append label (decimal count) (all_plain label plain) (number_plain count (omega (arith, within, few)))
 
 pub last_plain : (trace : List Entry) (ending : Ending) → length trace < 2 ^ 64 → IsEnding ending → HasWords (last_words trace ending)
-last_plain trace End few is = (
-  all_plain (codes "end") refl,
-  (
-    counted_plain (codes "events=") (is_counted counted.Event) trace refl few,
-    (
-      counted_plain (codes "in=") (is_counted counted.Entered) trace refl few,
+last_plain trace End few is =
+    let counts : Counts = counts_behind no_counts trace in
+    let within : AreWithin (length trace) counts = counts_within trace in (
+      all_plain (codes "end") refl,
       (
-        counted_plain (codes "left=") (is_counted counted.Left) trace refl few,
+        counted_plain (codes "events=") counts.events (length trace) refl within.events few,
         (
-          counted_plain (codes "sent=") (is_counted counted.Sent) trace refl few,
-          (counted_plain (codes "dropped=") (is_counted counted.Dropped) trace refl few, tt),
+          counted_plain (codes "in=") counts.entered (length trace) refl within.entered few,
+          (
+            counted_plain (codes "left=") counts.left (length trace) refl within.left few,
+            (counted_plain (codes "sent=") counts.sent (length trace) refl within.sent few, (counted_plain (codes "dropped=") counts.dropped (length trace) refl within.dropped few, tt)),
+          ),
         ),
       ),
-    ),
-  ),
-)
+    )
 last_plain trace (Crowded count) few is = (all_plain (codes "stop") refl, (all_plain (codes "Crowded") refl, (number_plain count is, tt)))
 last_plain trace (TooMuch weight) few is = (all_plain (codes "stop") refl, (all_plain (codes "TooMuch") refl, (number_plain weight is, tt)))

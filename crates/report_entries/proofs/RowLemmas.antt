@@ -13,16 +13,17 @@ use Rattle.net_base.specs.declared.trace.state_name.Reason.TheVariants as reason
 use Rattle.net_base.specs.declared.trace.state_name.StateName.{StateName}
 use Rattle.net_base.specs.declared.trace.state_name.StateName.TheVariants as state
 use Rattle.plan_names.proofs.BelowLemmas.{all_below}
-use Rattle.report_text.specs.Choices.{cause_at, cause_place, choice_word, end_at, end_place, state_at, state_place}
-use Rattle.report_text.specs.declared.choice.Choice.TheVariants as choice
-use Rattle.report_text.specs.Named.{IsEntryNamed, IsFromTo, IsNamedEdge, IsToldNumber, IsWire}
+use Rattle.line_shapes.specs.Choices.{cause_at, cause_place, choice_word, wire_end_at, wire_end_place, state_at, state_place}
+use Rattle.line_shapes.specs.declared.choice.Choice.TheVariants as choice
+use Rattle.report_text.specs.Named.{IsEntryNamed}
+use Rattle.event_rows.specs.Named.{IsFromTo, IsNamedEdge, IsToldNumber, IsWire}
 use Rattle.report_text.specs.Report.{entry_words}
 use Rattle.line_shapes.specs.Shapes.{AreValuesOf, form_at, row_words, nth_value, value_word}
 use Rattle.line_shapes.specs.declared.kind.Kind.{Kind}
 use Rattle.line_shapes.specs.declared.kind.Kind.TheVariants as kind
 use Rattle.line_shapes.proofs.TableLemmas.{AllBelow, IsRow}
 use Rattle.event_rows.proofs.RowLemmas.{at_end_of, word_same}
-use Rattle.report_entries.specs.Entries.{entry_forms, entry_made}
+use Rattle.report_text.specs.Rows.{entry_forms, entry_made}
 
 -- ---- choices
 
@@ -30,9 +31,9 @@ cause_word : (n : ℕ) → n < 18 → choice_word choice.Cause (cause_place (cau
 unfolding all_below
 cause_word n lt = word_same choice.Cause cause_at cause_place n refl lt
 
-end_word : (n : ℕ) → n < 9 → choice_word choice.End (end_place (end_at n)) ≡ choice_word choice.End n
+end_word : (n : ℕ) → n < 9 → choice_word choice.End (wire_end_place (wire_end_at n)) ≡ choice_word choice.End n
 unfolding all_below
-end_word n lt = word_same choice.End end_at end_place n refl lt
+end_word n lt = word_same choice.End wire_end_at wire_end_place n refl lt
 
 state_word : (n : ℕ) → n < 16 → choice_word choice.State (state_place (state_at n)) ≡ choice_word choice.State n
 unfolding all_below
@@ -58,7 +59,7 @@ cause_told cause.Icmp = (omega arith, refl)
 cause_told cause.NotOffered = (omega arith, refl)
 cause_told cause.LinkFault = (omega arith, refl)
 
-end_told : (x : Option Down) → (end_place x < 9) × (end_at (end_place x) ≡ x)
+end_told : (x : Option Down) → (wire_end_place x < 9) × (wire_end_at (wire_end_place x) ≡ x)
 end_told None = (omega arith, refl)
 end_told (Some down.NoLocal) = (omega arith, refl)
 end_told (Some down.NoRemote) = (omega arith, refl)
@@ -146,7 +147,7 @@ module _ (plan : Plan) where
   pub down_told : (edge : EdgeId) (wire : WireId) (x : Option Down) → IsNamedEdge plan edge → IsWire plan wire → IsEntryRow (entry.Wire edge wire x)
   down_told edge wire x is_edge is_wire = record {
     row = 1;
-    values = edge.0 ∷ wire.0 ∷ end_place x ∷ [];
+    values = edge.0 ∷ wire.0 ∷ wire_end_place x ∷ [];
     within = omega arith;
     fit = (refl, (is_edge, (refl, (is_wire, (refl, ((end_told x).0, refl))))));
     written = refl;

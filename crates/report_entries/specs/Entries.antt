@@ -1,16 +1,14 @@
--- The entries that lines of a report tell: a row for each without octets, and the entry that its values make; those with octets by their words.
-use Rattle.std.specs.Prelude.{◌++◌, ◌==◌, codes, ℕ, List, [], ◌∷◌, Option, Some, None, if◌then◌else◌}
+-- The entries that lines of a report tell: those without octets by their rows, those with octets by their words.
+use Rattle.std.specs.Prelude.{◌++◌, codes, ℕ, List, [], ◌∷◌, Option, Some, None, if◌then◌else◌}
 use Rattle.std.specs.Str.{bytes_eq}
 use Rattle.net_base.specs.declared.plan.Plan.{Plan}
 use Rattle.net_base.specs.declared.trace.entry.Entry.{Entry}
 use Rattle.net_base.specs.declared.trace.entry.Entry.TheVariants as entry
 use Rattle.plan_names.specs.Planned.{names_of}
 use Rattle.plan_names.specs.declared.plan_names.PlanNames.{PlanNames}
-use Rattle.report_text.specs.Choices.{cause_at, end_at, state_at}
+use Rattle.line_shapes.specs.Shapes.{line_said, told_by}
 use Rattle.report_text.specs.Report.{entry_line}
-use Rattle.report_text.specs.declared.choice.Choice.TheVariants.{Cause, End, State}
-use Rattle.line_shapes.specs.Shapes.{Form, form, line_said, told_by, nth_value}
-use Rattle.line_shapes.specs.declared.kind.Kind.TheVariants.{Edge, Wire, Number, OneOf}
+use Rattle.report_text.specs.Rows.{entry_forms, entry_made}
 use Rattle.report_entries.specs.declared.passed.Carried.{Carried}
 use Rattle.report_entries.specs.declared.passed.Passed.{Passed}
 use Rattle.report_entries.specs.Cut.{line_words}
@@ -66,29 +64,6 @@ left_in names (circuit ∷ words) = do
   passed ← passed_in words
   Some (entry.Left circuit passed.origin passed.hops passed.bytes)
 left_in names words = None
-
--- the rows of those without octets
-abbrev pub entry_forms : List Form
-entry_forms =
-    form (codes "session") (Edge ∷ Edge ∷ OneOf State ∷ [])
-    ∷ form (codes "wire") (Edge ∷ Wire ∷ OneOf End ∷ [])
-    ∷ form (codes "dropped") (Edge ∷ Number 0 18446744073709551615 ∷ OneOf Cause ∷ [])
-    ∷ form (codes "idle") []
-    ∷ form (codes "copied") (Number 0 18446744073709551615 ∷ Number 0 18446744073709551615 ∷ [])
-    ∷ form (codes "aged") (Number 0 18446744073709551615 ∷ [])
-    ∷ form (codes "pong") (Edge ∷ Wire ∷ Number 0 65535 ∷ [])
-    ∷ []
-
--- the entry of a row and its values
-abbrev pub entry_made : ℕ → List ℕ → Entry
-entry_made row v =
-    if row == 0 then entry.Session (record { 0 = nth_value 0 v }) (record { 0 = nth_value 1 v }) (state_at (nth_value 2 v))
-    else if row == 1 then entry.Wire (record { 0 = nth_value 0 v }) (record { 0 = nth_value 1 v }) (end_at (nth_value 2 v))
-    else if row == 2 then entry.Dropped (record { 0 = nth_value 0 v }) (nth_value 1 v) (cause_at (nth_value 2 v))
-    else if row == 3 then entry.Idle
-    else if row == 4 then entry.Copied (nth_value 0 v) (nth_value 1 v)
-    else if row == 5 then entry.Aged (nth_value 0 v)
-    else entry.Pong (record { 0 = nth_value 0 v }) (record { 0 = nth_value 1 v }) (nth_value 2 v)
 
 -- the entry of words, by their row
 unfoldable pub row_entry : Plan → List (List ℕ) → Option Entry

@@ -4,7 +4,7 @@ use Rattle.std.specs.Str.{bytes_eq}
 use Rattle.net_base.specs.declared.plan.Plan.{Plan}
 use Rattle.net_base.specs.declared.trace.entry.Entry.{Entry}
 use Rattle.plan_names.specs.Decimal.{is_decimal}
-use Rattle.report_text.specs.Report.{counts_words}
+use Rattle.report_text.specs.Report.{counts_told}
 use Rattle.text_lines.specs.Lines.{line_of}
 use Rattle.octet_text.specs.Cut.{before_mark, behind_mark}
 use Rattle.report_entries.specs.Cut.{report_line_feed, line_words}
@@ -26,7 +26,7 @@ found_on_line line (Some x) = Ok x
 
 -- the line of these counts
 abbrev pub tally_line : Tally → List ℕ
-tally_line tally = line_of (counts_words tally.events tally.entered tally.left tally.sent tally.dropped)
+tally_line tally = line_of (codes "end" ∷ counts_told tally.counts)
 
 -- a bound at which a run stopped, at any number
 abbrev pub is_stop : List (List ℕ) → Bool

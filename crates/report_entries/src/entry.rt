@@ -1,8 +1,7 @@
 //! The entries that lines tell.
-ghost use Rattle.std.specs.Prelude.{◌≡◌, ◌<◌, map};
+ghost use Rattle.std.specs.Prelude.{◌≡◌, map};
 ghost use Rattle.plan_names.specs.Planned.{names_of};
-ghost use Rattle.line_shapes.specs.Shapes.{AreValuesOf, AreSmall, form_at, form_of};
-ghost use Rattle.report_entries.specs.Entries.{did_in, entered_in, entry_forms, entry_made, left_in, row_entry, said_in, sent_in, words_entry};
+ghost use Rattle.report_entries.specs.Entries.{did_in, entered_in, left_in, row_entry, said_in, sent_in, words_entry};
 ghost use Rattle.report_entries.specs.Reading.{Reads};
 
 use crate::Unread;
@@ -10,12 +9,10 @@ use crate::event::event;
 use crate::passed::{Carried, Passed, read_carried, read_passed};
 use crate::told_words::ToldWords;
 use crate::values::{circuit, edge, number, octets};
-use line_shapes::Kind::{Edge, Number, OneOf, Wire};
-use line_shapes::{Shape, Values, is_word, read_shaped};
+use line_shapes::{is_word, read_shaped};
 use net_base::{Entry, Plan};
 use plan_names::PlanNames;
-use report_text::Choice::{Cause, End, State};
-use report_text::{cause_at, end_at, state_at};
+use report_text::{entry_made, entry_shapes};
 use std::alloc::Global;
 
 // Octets that an edge put towards a peer.
@@ -110,60 +107,6 @@ fn left(alloc: Global, names: &PlanNames<'_>, words: &[&[u8]]) -> Result<Entry, 
             })
         }
         _ => Err(Unread::NoEntry),
-    }
-}
-
-// The shape of each entry without octets.
-fn entry_shapes() -> &'static [Shape<'static>]
-    ensures { map form_of result.now ≡ entry_forms }
-{
-    &[
-        Shape(b"session", &[Edge, Edge, OneOf(State)]),
-        Shape(b"wire", &[Edge, Wire, OneOf(End)]),
-        Shape(b"dropped", &[Edge, Number(0, u64::MAX), OneOf(Cause)]),
-        Shape(b"idle", &[]),
-        Shape(b"copied", &[Number(0, u64::MAX), Number(0, u64::MAX)]),
-        Shape(b"aged", &[Number(0, u64::MAX)]),
-        Shape(b"pong", &[Edge, Wire, Number(0, 65535)]),
-    ]
-}
-
-// The entry of a row and its values.
-fn entry_made(plan: &Plan, row: usize, values: &Values) -> Entry
-    requires row { row < 7 }
-    requires fit { AreValuesOf plan.now (form_at entry_forms row).kinds values.now }
-    requires small { AreSmall (form_at entry_forms row).kinds values.now }
-    ensures { result ≡ entry_made row values.now }
-{
-    match row {
-        0 => Entry::Session {
-            edge: values.edge(0),
-            peer: values.edge(1),
-            state: state_at(values.at(2)),
-        },
-        1 => Entry::Wire {
-            edge: values.edge(0),
-            wire: values.wire(1),
-            down: end_at(values.at(2)),
-        },
-        2 => Entry::Dropped {
-            edge: values.edge(0),
-            origin: values.at(1),
-            cause: cause_at(values.at(2)),
-        },
-        3 => Entry::Idle,
-        4 => Entry::Copied {
-            packet: values.at(0),
-            of: values.at(1),
-        },
-        5 => Entry::Aged {
-            packet: values.at(0),
-        },
-        _ => Entry::Pong {
-            edge: values.edge(0),
-            wire: values.wire(1),
-            sequence: values.at(2) as u16,
-        },
     }
 }
 

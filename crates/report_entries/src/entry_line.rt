@@ -10,24 +10,8 @@ use net_base::{Entry, Plan};
 use plan_names::PlanNames;
 use std::alloc::Global;
 
-// The entry of a line with these words. No two words say the same, so that this is its line.
-#[tactic(auto, using(crate::proofs::AgainLemmas::reads_line_of))]
-fn told_entry(
-    alloc: Global,
-    plan: &Plan,
-    names: &PlanNames<'_>,
-    line: &[u8],
-    words: &[&[u8]],
-) -> Result<Entry, Unread>
-    requires names { names.now ≡ names_of plan.now }
-    requires words { map (λ w. w.now) words.now ≡ line_words line.now }
-    ensures { Reads result (line_entry plan.now line.now) }
-{
-    words_entry(alloc, plan, names, words)
-}
-
-// What is read names places of the plan.
-#[tactic(auto, using(crate::proofs::NamedLemmas::named_result))]
+// The entry of a line with these words. No two words say the same, so that this is its line; and what is read names places of the plan.
+#[tactic(auto, using(crate::proofs::AgainLemmas::reads_line_of, crate::proofs::AgainLemmas::names_places))]
 fn read_entry(
     alloc: Global,
     plan: &Plan,
@@ -40,7 +24,7 @@ fn read_entry(
     ensures read { Reads result (line_entry plan.now line.now) }
     ensures named { IfOk result (IsEntryNamed plan.now) }
 {
-    told_entry(alloc, plan, names, line, words)
+    words_entry(alloc, plan, names, words)
 }
 
 /// The entry of a line, or that the form is broken in the line of this number.

@@ -28,19 +28,14 @@ fn is_number(text: &[u8]) -> bool
     true
 }
 
-// Whether a word is a bound at which a run stops.
-fn is_bound(word: &[u8]) -> bool
-    ensures { result ≡ (bytes_eq word.now (codes "Crowded") || bytes_eq word.now (codes "TooMuch")) }
-{
-    is_word(word, "Crowded") || is_word(word, "TooMuch")
-}
-
 // Whether words tell a bound at which a run stopped.
 fn is_stop_bound(words: &[&[u8]]) -> bool
     ensures { result ≡ is_stop (map (λ w. w.now) words.now) }
 {
     match words {
-        [bound, number] => is_bound(bound) && is_number(number),
+        [bound, number] => {
+            (is_word(bound, "Crowded") || is_word(bound, "TooMuch")) && is_number(number)
+        }
         _ => false,
     }
 }

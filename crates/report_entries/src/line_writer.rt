@@ -1,33 +1,18 @@
 //! The last line that counts ask for, to be compared.
-ghost use Rattle.std.specs.{Prelude.{◌≡◌, ◌++◌, ◌∷◌, [], codes, map, IfOk, OnOk}, Fmt.{decimal}};
-ghost use Rattle.text_lines.specs.Lines.{word_octets};
+ghost use Rattle.std.specs.Prelude.{◌≡◌, [], IfOk, OnOk};
 ghost use Rattle.report_entries.specs.Report.{tally_line};
 
 use crate::line_sink::LineSink;
 use crate::tally::Tally;
 use net_base::{Failed, NoMemory};
 use std::alloc::Global;
-use text_lines::{LineWord, Page};
+use text_lines::Page;
 
 /// Writes the line of counts, into room that it keeps.
 #[derive(Drop)]
 pub struct LineWriter {
     page: Page,
     sink: LineSink,
-}
-
-// The words of counts.
-fn told<'a>(tally: Tally) -> [LineWord<'a>; 5]
-    ensures { map word_octets result
-        ≡ (codes "events=" ++ decimal tally.events) ∷ (codes "in=" ++ decimal tally.entered) ∷ (codes "left=" ++ decimal tally.left) ∷ (codes "sent=" ++ decimal tally.sent) ∷ (codes "dropped=" ++ decimal tally.dropped) ∷ [] }
-{
-    [
-        LineWord::Labelled(b"events=", tally.events),
-        LineWord::Labelled(b"in=", tally.entered),
-        LineWord::Labelled(b"left=", tally.left),
-        LineWord::Labelled(b"sent=", tally.sent),
-        LineWord::Labelled(b"dropped=", tally.dropped),
-    ]
 }
 
 // Writes the line that tells counts over a page on which nothing waits.
@@ -38,7 +23,7 @@ fn write_counts(page: &mut Page, sink: &mut LineSink, tally: Tally) -> Result<()
     ensures line { OnOk result (sink.new.octets ≡ tally_line tally) }
 {
     sink.clear();
-    page.put_line(sink, b"end", &told(tally))?;
+    page.put_line(sink, b"end", &tally.counts.words())?;
     page.flush(sink)
 }
 

@@ -1,7 +1,6 @@
-pub mod Choices
-pub mod EventWords
+pub mod Counted
 pub mod Named
 pub mod Read
 pub mod Report
+pub mod Rows
 pub mod SentWords
-pub mod Words

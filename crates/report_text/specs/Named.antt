@@ -1,42 +1,14 @@
 -- Entries that name places of a plan.
-use Rattle.std.specs.Prelude.{◌≡◌, ◌<◌, ◌≤◌, ◌^◌, ℕ, codes, List, length}
-use Rattle.std.specs.List.{All}
+use Rattle.std.specs.Prelude.{◌≡◌, codes}
 use Rattle.net_base.specs.declared.plan.Plan.{Plan}
 use Rattle.net_base.specs.declared.plan.places.CircuitId.{CircuitId}
-use Rattle.net_base.specs.declared.plan.places.EdgeId.{EdgeId}
 use Rattle.net_base.specs.declared.plan.places.WireId.{WireId}
 use Rattle.net_base.specs.declared.trace.arrival.Arrival.{Arrival}
 use Rattle.net_base.specs.declared.trace.arrival.Arrival.TheVariants as arrival
 use Rattle.net_base.specs.declared.trace.entry.Entry.{Entry}
 use Rattle.net_base.specs.declared.trace.entry.Entry.TheVariants as entry
-use Rattle.net_base.specs.declared.trace.event.Event.{Event}
-use Rattle.net_base.specs.declared.trace.event.Event.TheVariants as event
-use Rattle.net_base.specs.plan.Planned.{IsFrame}
-use Rattle.report_text.specs.Words.{circuit_name, wire_name}
-
--- a number of 64 bits
-abbrev pub IsToldNumber : ℕ → Type 0
-IsToldNumber n = n < 2 ^ 64
-
--- a number from one to another one
-abbrev pub IsFromTo : ℕ → ℕ → ℕ → Type 0
-IsFromTo low high n = (low ≤ n) × (n ≤ high)
-
--- the number of a packet that an event names
-abbrev pub IsNamedPacket : ℕ → Type 0
-IsNamedPacket n = IsFromTo 1 18446744073709551615 n
-
-abbrev pub AreOctetsTold : List ℕ → Type 0
-AreOctetsTold octets = All (λ octet. octet < 256) octets
-
-abbrev pub IsNamedEdge : Plan → EdgeId → Type 0
-IsNamedEdge plan edge = edge.0 < length plan.edges
-
-abbrev pub IsCircuit : Plan → CircuitId → Type 0
-IsCircuit plan circuit = circuit.0 < length plan.circuits
-
-abbrev pub IsWire : Plan → WireId → Type 0
-IsWire plan wire = wire.0 < length plan.wires
+use Rattle.line_shapes.specs.Words.{circuit_name, wire_name}
+use Rattle.event_rows.specs.Named.{AreOctetsTold, IsCircuit, IsFromTo, IsNamedEdge, IsNamedEvent, IsToldNumber, IsWire}
 
 -- what came by a circuit or a wire of the plan, or by none
 abbrev pub IsArrival : Plan → Arrival → Type 0
@@ -50,24 +22,7 @@ pub record HasNamesApart (plan : Plan) : Type 0 where
   pub circuits : (circuit : CircuitId) → IsCircuit plan circuit → circuit_name plan circuit ≡ codes "-" → ⊥
   pub wires : (wire : WireId) → IsWire plan wire → wire_name plan wire ≡ codes "-" → ⊥
 
--- an event names places of the plan, and numbers in their ranges
-abbrev pub IsNamedEvent : Plan → Event → Type 0
-IsNamedEvent plan (event.Connect from to) = IsNamedEdge plan from × IsNamedEdge plan to
-IsNamedEvent plan (event.Deliver from to count) = IsNamedEdge plan from × (IsNamedEdge plan to × IsFromTo 1 65535 count)
-IsNamedEvent plan (event.Lose edge peer) = IsNamedEdge plan edge × IsNamedEdge plan peer
-IsNamedEvent plan (event.Restart edge) = IsNamedEdge plan edge
-IsNamedEvent plan event.Tick = Unit {0}
-IsNamedEvent plan (event.Frame circuit octets) = IsCircuit plan circuit × (AreOctetsTold octets × IsFrame octets)
-IsNamedEvent plan (event.Arrive packet) = IsNamedPacket packet
-IsNamedEvent plan (event.Discard packet) = IsNamedPacket packet
-IsNamedEvent plan (event.Again packet) = IsNamedPacket packet
-IsNamedEvent plan (event.Wire edge wire on) = IsNamedEdge plan edge × IsWire plan wire
-IsNamedEvent plan (event.Circuit circuit on) = IsCircuit plan circuit
-IsNamedEvent plan (event.Status edge wire bits) = IsNamedEdge plan edge × (IsWire plan wire × IsFromTo 0 31 bits)
-IsNamedEvent plan (event.Priority edge wire priority) = IsNamedEdge plan edge × (IsWire plan wire × IsFromTo 0 255 priority)
-IsNamedEvent plan (event.Ping edge wire) = IsNamedEdge plan edge × IsWire plan wire
-
--- so does an entry
+-- an entry names places of the plan, and numbers in their ranges
 abbrev pub IsEntryNamed : Plan → Entry → Type 0
 IsEntryNamed plan (entry.Did event) = IsNamedEvent plan event
 IsEntryNamed plan entry.Idle = Unit {0}

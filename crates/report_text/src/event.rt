@@ -1,11 +1,11 @@
 //! The line of an event that was done.
 ghost use Rattle.std.specs.{Prelude.{◌≡◌, ◌∷◌, [], codes}, Fmt.{decimal}};
-ghost use Rattle.report_text.specs.Words.{event_words};
+ghost use Rattle.event_rows.specs.Rows.{event_words};
 ghost use Rattle.text_lines.specs.{Lines.{line_of}, Written.{PutsOn}};
 ghost use Rattle.text_pieces.specs.Pieces.{hex};
 
-use crate::event_words::words_of_event;
-use crate::names::circuit_text;
+use event_rows::{event_apart, event_shape};
+use line_shapes::{circuit_text, put_done_row};
 use net_base::{Event, Failed, Plan, Sink};
 use text_lines::{LineWord, Page};
 
@@ -24,7 +24,10 @@ pub fn put_event<K: Sink>(
             put_frame(page, sink, circuit, bytes.as_slice())
         }
         Event::Arrive { packet } => put_arrival(page, sink, packet),
-        _ => put_any_event(page, sink, plan, event),
+        _ => {
+            let (row, values) = event_apart(event);
+            put_done_row(page, sink, plan, event_shape(row), &values)
+        }
     }
 }
 
@@ -50,18 +53,4 @@ fn put_arrival<K: Sink>(page: &mut Page, sink: &mut K, packet: u64) -> Result<()
 {
     page.put(sink, b"> arrive")?;
     page.put_last(sink, LineWord::Number(packet))
-}
-
-// Puts the line of an event of any kind.
-#[inline(never)]
-fn put_any_event<K: Sink>(
-    page: &mut Page,
-    sink: &mut K,
-    plan: &Plan,
-    event: &Event,
-) -> Result<(), Failed>
-    ensures { PutsOn K.taken K.faults page.old page.new sink.old sink.new result (line_of (codes ">" ∷ event_words plan.now event.now)) }
-{
-    let words = words_of_event(plan, event);
-    page.put_line(sink, b">", words.as_slice())
 }

@@ -14,7 +14,8 @@ use Rattle.net_base.specs.plan.Paths.{first_edge}
 use Rattle.net_base.specs.plan.Places.{wire_row}
 use Rattle.network_model.specs.Reach.{is_row_on}
 use Rattle.network_model.specs.State.{NetworkState}
-use Rattle.report_text.specs.Words.{edge_name, event_words, name_or_empty}
+use Rattle.line_shapes.specs.Words.{edge_name, name_or_empty}
+use Rattle.event_rows.specs.Rows.{event_words}
 use Rattle.survey_laws.specs.declared.fault.Fault.{Fault}
 use Rattle.survey_laws.specs.declared.fault.Fault.TheVariants as fault
 use Rattle.survey_reach.specs.FaultList.{all_faults}

@@ -6,8 +6,8 @@ ghost use Rattle.text_lines.specs.Written.{PutsOn};
 ghost use Rattle.text_pieces.specs.Pieces.{spaced};
 
 use crate::words::{put_end, put_words};
+use event_rows::words_of_event;
 use net_base::{EdgeId, Event, Failed, Plan, Sink, WireId, first_of};
-use report_text::words_of_event;
 use survey_laws::Fault;
 use text_lines::Page;
 

@@ -7,8 +7,8 @@ ghost use Rattle.text_lines.specs.Written.{PutsOn};
 
 use crate::over::Over;
 use crate::service::Service;
+use line_shapes::edge_word;
 use net_base::{EdgeId, Failed, Sink};
-use report_text::edge_word;
 use text_lines::Page;
 
 // Puts the lines of the service at a place.

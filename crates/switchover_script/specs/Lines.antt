@@ -5,7 +5,7 @@ use Rattle.line_shapes.specs.Shapes.{Form, form, line_said, nth_value}
 use Rattle.line_shapes.specs.declared.kind.Kind.TheVariants.{Edge, Between, Number}
 use Rattle.status_exchange.specs.declared.wish.Wish.TheVariants.{Active, Standby, Ask}
 use Rattle.script_text.specs.declared.script_fault.ScriptFault.{ScriptFault}
-use Rattle.script_words.specs.Reading.{script_said}
+use Rattle.script_text.specs.Lines.{script_said}
 use Rattle.line_shapes.specs.Script.{made_at}
 use Rattle.switchover_model.specs.declared.switch_line.SwitchLine.{SwitchLine}
 use Rattle.switchover_model.specs.declared.switch_line.SwitchLine.TheVariants.{Connect, Cut, Deliver, Settle, Set}

@@ -6,11 +6,10 @@ ghost use Rattle.switchover_model.specs.Planned.{IsLineOf};
 ghost use Rattle.switchover_script.specs.Lines.{switch_apart, switch_forms, switch_line_of, switch_made};
 
 use line_shapes::Kind::{Between, Edge, Number};
-use line_shapes::{Shape, Values, read_shaped, shape_at};
+use line_shapes::{NumberedLine, Shape, Values, read_shaped, shape_at};
 use net_base::Plan;
 use plan_names::PlanNames;
 use script_text::ScriptFault;
-use script_words::NumberedLine;
 use status_exchange::Wish;
 use switchover_model::SwitchLine;
 
@@ -29,9 +28,8 @@ pub fn switch_shapes() -> &'static [Shape<'static>]
     ]
 }
 
-/// The shape of a row.
+/// The shape of a row; behind the last one, that of the empty word.
 pub fn switch_shape(row: usize) -> Shape<'static>
-    requires { row < 7 }
     ensures form { form_of result ≡ form_at switch_forms row }
     ensures short { length result.1.now ≤ 3 }
 {

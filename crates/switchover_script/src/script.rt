@@ -7,15 +7,15 @@ ghost use Rattle.switchover_model.specs.Planned.{IsLineOf};
 ghost use Rattle.switchover_script.specs.Lines.{switch_lines_in};
 
 use crate::lines::read_line;
+use line_shapes::NumberedLine;
 use net_base::{List, NoMemory, Plan};
 use plan_names::{NameLists, PlanNames};
 use script_text::{ScriptFault, read_lines};
-use script_words::NumberedLine;
 use std::alloc::Global;
 use switchover_model::SwitchLine;
 
 // The lines of a script, by the names of its plan.
-#[tactic(auto, unfolding(crate::specs::Lines::switch_lines_in, script_words::specs::Reading::script_said), using(script_words::proofs::CountLemmas::few_lines))]
+#[tactic(auto, unfolding(crate::specs::Lines::switch_lines_in, script_text::specs::Lines::script_said), using(script_text::proofs::CountLemmas::few_lines))]
 fn read_with(
     alloc: Global,
     plan: &Plan,

@@ -3,7 +3,7 @@ use Rattle.std.specs.Prelude.{◌++◌, ℕ, codes, Bool, true, false, List, [],
 use Rattle.std.specs.Fmt.{decimal}
 use Rattle.line_shapes.specs.Shapes.{form_at, row_words}
 use Rattle.net_base.specs.declared.plan.Plan.{Plan}
-use Rattle.report_text.specs.Words.{edge_name, wire_name}
+use Rattle.line_shapes.specs.Words.{edge_name, wire_name}
 use Rattle.switchover_model.specs.Network.{first_network}
 use Rattle.switchover_model.specs.Text.{script_entries}
 use Rattle.switchover_model.specs.declared.switch_entry.SwitchEntry.{SwitchEntry}

@@ -1,12 +1,12 @@
 //! What is told of a line.
 ghost use Rattle.std.specs.Prelude.{◌≡◌, ◌∷◌, [], map};
-ghost use Rattle.report_text.specs.Words.{edge_name, wire_name};
+ghost use Rattle.line_shapes.specs.Words.{edge_name, wire_name};
 ghost use Rattle.switchover_text.specs.Text.{answer_word, told_lines, entry_words_told};
 ghost use Rattle.text_lines.specs.{Lines.{line_of, word_octets}, Written.{PutsOn}};
 ghost use Rattle.text_pieces.specs.Pieces.{hex};
 
+use line_shapes::{edge_word, wire_word};
 use net_base::{EdgeId, Failed, Plan, Sink, WireId};
-use report_text::{edge_word, wire_word};
 use switchover_model::SwitchEntry;
 use text_lines::{LineWord, Page};
 

@@ -16,7 +16,7 @@ use Rattle.edge_model.specs.declared.end_place.EndPlace.{EndPlace}
 use Rattle.edge_model.specs.State.{EdgeState, addresses_of, end_at}
 use Rattle.network_model.specs.State.{NetworkState, edge_at}
 use Rattle.provider_edge.specs.Lists.{EdgeLists, seen}
-use Rattle.report_text.specs.Words.{name_or_empty}
+use Rattle.line_shapes.specs.Words.{name_or_empty}
 use Rattle.text_lines.specs.Written.{Written, WritingGoesOn, Puts}
 use Rattle.text_lines.proofs.WrittenLemmas.{goes_none}
 use Rattle.tables_text.specs.Addresses.{by_address}

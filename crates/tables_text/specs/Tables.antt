@@ -20,7 +20,7 @@ use Rattle.edge_model.specs.Ends.{is_stitched}
 use Rattle.edge_model.specs.Role.{down_at}
 use Rattle.edge_model.specs.State.{EdgeState, addresses_of, end_at}
 use Rattle.network_model.specs.State.{NetworkState, edge_at}
-use Rattle.report_text.specs.Words.{circuit_name, edge_name, name_or_empty, state_name, wire_end_name, wire_name}
+use Rattle.line_shapes.specs.Words.{circuit_name, edge_name, name_or_empty, state_name, wire_end_name, wire_name}
 use Rattle.tables_text.specs.Addresses.{by_address}
 use Rattle.text_lines.specs.Lines.{line_of}
 use Rattle.text_pieces.specs.Pieces.{hex}

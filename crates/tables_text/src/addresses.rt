@@ -9,10 +9,10 @@ ghost use Rattle.text_lines.specs.{Lines.{word_octets}, Written.{PutsOn}};
 
 use crate::sorting::Sorting;
 use hvpls_spokes::{Port, Ports};
+use line_shapes::{circuit_word, wire_word};
 use mac_table::{MacEntry, MacTable};
 use net_base::{Failed, Plan, ServiceId, Sink};
 use provider_edge::Edge;
-use report_text::{circuit_word, wire_word};
 use text_lines::{LineWord, Page};
 use vsi_bridge::Bridge;
 

@@ -9,9 +9,9 @@ use crate::addresses::put_addresses;
 use crate::ends::put_ends;
 use crate::sessions::put_sessions;
 use crate::sorting::Sorting;
+use line_shapes::edge_word;
 use net_base::{Failed, Sink};
 use provider_edge::Edge;
-use report_text::edge_word;
 use text_lines::{LineWord, Page};
 
 // The words of an edge behind the first one.

@@ -8,10 +8,10 @@ ghost use Rattle.tables_text.specs.Tables.{end_line, end_lines, end_text, end_wo
 ghost use Rattle.text_lines.specs.{Lines.{word_octets}, Written.{PutsOn}};
 
 use edge_model::EndPlace;
+use line_shapes::{edge_word, wire_end_text, wire_word};
 use net_base::{Down, Failed, Sink};
 use provider_edge::Edge;
 use pw_signalling::{Binding, PwEnd};
-use report_text::{edge_word, wire_end_text, wire_word};
 use text_lines::{LineWord, Page};
 
 // What an end tells its peer.

@@ -5,9 +5,9 @@ ghost use Rattle.provider_edge.specs.Lists.{seen};
 ghost use Rattle.tables_text.specs.Tables.{session_line, session_lines, session_words};
 ghost use Rattle.text_lines.specs.{Lines.{word_octets}, Written.{PutsOn}};
 
+use line_shapes::{edge_word, state_text};
 use net_base::{EdgeId, Failed, Sink};
 use provider_edge::Edge;
-use report_text::{edge_word, state_text};
 use text_lines::{LineWord, Page};
 
 // The words of the session of an edge with a peer behind the first one.

@@ -2,7 +2,7 @@
 use Rattle.std.proofs.Common.{◌≡◌, ◌+◌, drop}
 use Rattle.std.specs.List.{All}
 use Rattle.script_text.specs.Reading.{with_front_lines}
-use Rattle.script_words.specs.Reading.{lines_said}
+use Rattle.script_text.specs.Lines.{lines_said}
 use Rattle.discovery_script.specs.Lines.{discovery_line_of}
 use Rattle.discovery_script.specs.Planned.{IsDiscoveryLineOf}
 use Rattle.discovery_script.proofs.script.read_with.Given as goal

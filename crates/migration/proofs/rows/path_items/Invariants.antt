@@ -2,7 +2,7 @@
 use Rattle.std.proofs.Common.{◌≡◌, ◌++◌, drop, map}
 use Rattle.toml.specs.Data.{string}
 use Rattle.toml.specs.View.{view}
-use Rattle.report_text.specs.Words.{edge_name}
+use Rattle.line_shapes.specs.Words.{edge_name}
 use Rattle.migration.proofs.rows.path_items.Given as goal
 
 abbrev pub invariant-loop-edge : goal.invariant-loop-edge

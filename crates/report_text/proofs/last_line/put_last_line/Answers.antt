@@ -2,11 +2,7 @@
 use Rattle.report_text.proofs.last_line.put_last_line.Goals as goal
 
 pub returns-in-End : goal.returns-in-End
-returns-in-End g c =
-    let counts = c.counts_of.ensures in
-    let told = c.told.ensures in
-    let put = c.put_line.ensures in
-    rw c.in-End.is (rw (told, counts.events, counts.entered, counts.left, counts.sent, counts.dropped) at put)
+returns-in-End g c = rw c.in-End.is (rw (c.words.ensures, c.counts_of.ensures) at c.put_line.ensures)
 
 pub returns-in-Crowded : goal.returns-in-Crowded
 returns-in-Crowded g c =

@@ -3,7 +3,7 @@ use Rattle.std.proofs.Common.{◌≡◌, ◌+◌, drop}
 use Rattle.std.specs.List.{All}
 use Rattle.script_text.specs.Reading.{with_front_lines}
 use Rattle.switchover_model.specs.Planned.{IsLineOf}
-use Rattle.script_words.specs.Reading.{lines_said}
+use Rattle.script_text.specs.Lines.{lines_said}
 use Rattle.switchover_script.specs.Lines.{switch_line_of}
 use Rattle.switchover_script.proofs.script.read_with.Given as goal
 

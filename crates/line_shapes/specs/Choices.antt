@@ -7,8 +7,8 @@ use Rattle.net_base.specs.declared.trace.drop_cause.DropCause.TheVariants as cau
 use Rattle.net_base.specs.declared.trace.state_name.Reason.TheVariants as reason
 use Rattle.net_base.specs.declared.trace.state_name.StateName.{StateName}
 use Rattle.net_base.specs.declared.trace.state_name.StateName.TheVariants as state
-use Rattle.report_text.specs.declared.choice.Choice.{Choice}
-use Rattle.report_text.specs.declared.choice.Choice.TheVariants.{Switch, Cause, End, State}
+use Rattle.line_shapes.specs.declared.choice.Choice.{Choice}
+use Rattle.line_shapes.specs.declared.choice.Choice.TheVariants.{Switch, Cause, End, State}
 
 -- the words of a choice
 abbrev pub choice_words : Choice → List (List ℕ)
@@ -69,23 +69,23 @@ cause_place cause.LinkFault = 17
 
 -- ---- whether a wire's end forwards, and why it does not
 
-abbrev pub all_ends : List (Option Down)
-all_ends =
+abbrev pub all_wire_ends : List (Option Down)
+all_wire_ends =
     None ∷ Some down.NoLocal ∷ Some down.NoRemote ∷ Some down.CBit ∷ Some down.Kind ∷ Some down.Mtu ∷ Some down.LocalFault ∷ Some down.RemoteFault ∷ Some down.Standby ∷ []
 
-abbrev pub end_at : ℕ → Option Down
-end_at place = get_or all_ends place None
+abbrev pub wire_end_at : ℕ → Option Down
+wire_end_at place = get_or all_wire_ends place None
 
-abbrev pub end_place : Option Down → ℕ
-end_place None = 0
-end_place (Some down.NoLocal) = 1
-end_place (Some down.NoRemote) = 2
-end_place (Some down.CBit) = 3
-end_place (Some down.Kind) = 4
-end_place (Some down.Mtu) = 5
-end_place (Some down.LocalFault) = 6
-end_place (Some down.RemoteFault) = 7
-end_place (Some down.Standby) = 8
+abbrev pub wire_end_place : Option Down → ℕ
+wire_end_place None = 0
+wire_end_place (Some down.NoLocal) = 1
+wire_end_place (Some down.NoRemote) = 2
+wire_end_place (Some down.CBit) = 3
+wire_end_place (Some down.Kind) = 4
+wire_end_place (Some down.Mtu) = 5
+wire_end_place (Some down.LocalFault) = 6
+wire_end_place (Some down.RemoteFault) = 7
+wire_end_place (Some down.Standby) = 8
 
 -- ---- a session's state; one that ended tells why
 

@@ -3,7 +3,7 @@ use Rattle.std.proofs.Common.{◌≡◌, ◌+◌, ◌++◌, drop, length, map, t
 use Rattle.text_lines.specs.Lines.{word_octets}
 use Rattle.line_shapes.specs.Shapes.{form_of, row_words, value_words}
 use Rattle.line_shapes.proofs.WordLemmas.{values_from}
-use Rattle.line_shapes.proofs.writer.shaped_words.Given as goal
+use Rattle.line_shapes.proofs.writer.write_words.Given as goal
 
 abbrev pub invariant-loop-place : goal.invariant-loop-place
 invariant-loop-place l =

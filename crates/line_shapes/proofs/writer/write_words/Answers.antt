@@ -4,7 +4,7 @@ use Rattle.std.proofs.lemmas.List.{length-set}
 use Rattle.text_lines.specs.declared.line_word.LineWord.TheVariants.{Text}
 use Rattle.line_shapes.specs.Shapes.{value_words}
 use Rattle.line_shapes.proofs.WordLemmas.{words_first, words_more}
-use Rattle.line_shapes.proofs.writer.shaped_words.Goals as goal
+use Rattle.line_shapes.proofs.writer.write_words.Goals as goal
 
 pub loop-place-init : goal.loop-place-init
 loop-place-init c =

@@ -1,20 +1,16 @@
--- The words of a report: names, numbers, octets and events.
-use Rattle.std.specs.Prelude.{ℕ, codes, Bool, List, [], ◌∷◌, Option, Some, None, slice_get, option_map}
-use Rattle.std.specs.Fmt.{decimal}
+-- The words of names, and of what one of several words tells.
+use Rattle.std.specs.Prelude.{ℕ, codes, Bool, List, [], Option, Some, None, slice_get, option_map}
 use Rattle.net_base.specs.declared.trace.arrival.Arrival.{Arrival}
 use Rattle.net_base.specs.declared.trace.arrival.Arrival.TheVariants as arrival
 use Rattle.net_base.specs.declared.trace.down.Down.{Down}
 use Rattle.net_base.specs.declared.trace.drop_cause.DropCause.{DropCause}
-use Rattle.net_base.specs.declared.trace.event.Event.{Event}
-use Rattle.net_base.specs.declared.trace.event.Event.TheVariants as event
 use Rattle.net_base.specs.declared.plan.places.CircuitId.{CircuitId}
 use Rattle.net_base.specs.declared.plan.places.EdgeId.{EdgeId}
 use Rattle.net_base.specs.declared.plan.places.WireId.{WireId}
 use Rattle.net_base.specs.declared.plan.Plan.{Plan}
 use Rattle.net_base.specs.declared.trace.state_name.StateName.{StateName}
-use Rattle.report_text.specs.Choices.{cause_place, choice_word, end_place, state_place, switch_place}
-use Rattle.report_text.specs.declared.choice.Choice.TheVariants.{Switch, Cause, End, State}
-use Rattle.text_pieces.specs.Pieces.{hex}
+use Rattle.line_shapes.specs.Choices.{cause_place, choice_word, wire_end_place, state_place, switch_place}
+use Rattle.line_shapes.specs.declared.choice.Choice.TheVariants.{Switch, Cause, End, State}
 
 -- a name, or the empty text where there is none
 abbrev pub name_or_empty : Option (List ℕ) → List ℕ
@@ -49,25 +45,8 @@ cause_name cause = choice_word Cause (cause_place cause)
 
 -- a wire's end: up, or why it is down
 abbrev pub wire_end_name : Option Down → List ℕ
-wire_end_name end = choice_word End (end_place end)
+wire_end_name end = choice_word End (wire_end_place end)
 
 -- a session's state; one that ended tells why
 abbrev pub state_name : StateName → List ℕ
 state_name state = choice_word State (state_place state)
-
--- the words of an event, as a scenario writes it
-abbrev pub event_words : Plan → Event → List (List ℕ)
-event_words plan (event.Connect from to) = codes "connect" ∷ edge_name plan from ∷ edge_name plan to ∷ []
-event_words plan (event.Deliver from to count) = codes "deliver" ∷ edge_name plan from ∷ edge_name plan to ∷ decimal count ∷ []
-event_words plan (event.Lose edge peer) = codes "lose" ∷ edge_name plan edge ∷ edge_name plan peer ∷ []
-event_words plan (event.Restart edge) = codes "restart" ∷ edge_name plan edge ∷ []
-event_words plan event.Tick = codes "tick" ∷ []
-event_words plan (event.Frame circuit octets) = codes "frame" ∷ circuit_name plan circuit ∷ hex octets ∷ []
-event_words plan (event.Arrive packet) = codes "arrive" ∷ decimal packet ∷ []
-event_words plan (event.Discard packet) = codes "drop" ∷ decimal packet ∷ []
-event_words plan (event.Again packet) = codes "again" ∷ decimal packet ∷ []
-event_words plan (event.Wire edge wire on) = codes "wire" ∷ edge_name plan edge ∷ wire_name plan wire ∷ switch_name on ∷ []
-event_words plan (event.Circuit circuit on) = codes "circuit" ∷ circuit_name plan circuit ∷ switch_name on ∷ []
-event_words plan (event.Status edge wire bits) = codes "status" ∷ edge_name plan edge ∷ wire_name plan wire ∷ decimal bits ∷ []
-event_words plan (event.Priority edge wire priority) = codes "priority" ∷ edge_name plan edge ∷ wire_name plan wire ∷ decimal priority ∷ []
-event_words plan (event.Ping edge wire) = codes "ping" ∷ edge_name plan edge ∷ wire_name plan wire ∷ []

@@ -1,21 +1,28 @@
-//! The names that a report tells.
+//! The names of what lines tell.
 ghost use Rattle.std.specs.Prelude.{◌≡◌};
 ghost use Rattle.text_lines.specs.Lines.{word_octets};
-ghost use Rattle.report_text.specs.Words.{edge_name, circuit_name, wire_name, arrival_name, switch_name, cause_name, wire_end_name, state_name};
+ghost use Rattle.line_shapes.specs.Words.{edge_name, circuit_name, wire_name, arrival_name, switch_name, cause_name, wire_end_name, state_name};
 
 use crate::choice::{Choice, word_of};
-use crate::choice_values::{cause_place, end_place, state_place, switch_place};
+use crate::choice_values::{cause_place, state_place, switch_place, wire_end_place};
 use net_base::{Arrival, CircuitId, Down, DropCause, EdgeId, Plan, StateName, WireId};
 use text_lines::LineWord;
+
+// The name of an edge by its place; empty outside the plan.
+pub(crate) fn edge_at(plan: &Plan, place: usize) -> &[u8]
+    ensures { result.now ≡ edge_name plan.now (record { 0 = place }) }
+{
+    match plan.edges.get(place) {
+        Some(row) => row.name.as_slice(),
+        None => &[],
+    }
+}
 
 /// The name of an edge; empty outside the plan.
 pub fn edge_text(plan: &Plan, edge: EdgeId) -> &[u8]
     ensures { result.now ≡ edge_name plan.now edge }
 {
-    match plan.edges.get(edge.0 as usize) {
-        Some(row) => row.name.as_slice(),
-        None => &[],
-    }
+    edge_at(plan, edge.0 as usize)
 }
 
 /// The name of an edge as a word.
@@ -25,14 +32,21 @@ pub fn edge_word(plan: &Plan, edge: EdgeId) -> LineWord<'_>
     LineWord::Text(edge_text(plan, edge))
 }
 
+// The name of a circuit by its place; empty outside the plan.
+pub(crate) fn circuit_at(plan: &Plan, place: usize) -> &[u8]
+    ensures { result.now ≡ circuit_name plan.now (record { 0 = place }) }
+{
+    match plan.circuits.get(place) {
+        Some(row) => row.name.as_slice(),
+        None => &[],
+    }
+}
+
 /// The name of a circuit; empty outside the plan.
 pub fn circuit_text(plan: &Plan, circuit: CircuitId) -> &[u8]
     ensures { result.now ≡ circuit_name plan.now circuit }
 {
-    match plan.circuits.get(circuit.0 as usize) {
-        Some(row) => row.name.as_slice(),
-        None => &[],
-    }
+    circuit_at(plan, circuit.0 as usize)
 }
 
 /// The name of a circuit as a word.
@@ -42,14 +56,21 @@ pub fn circuit_word(plan: &Plan, circuit: CircuitId) -> LineWord<'_>
     LineWord::Text(circuit_text(plan, circuit))
 }
 
+// The name of a wire by its place; empty outside the plan.
+pub(crate) fn wire_at(plan: &Plan, place: usize) -> &[u8]
+    ensures { result.now ≡ wire_name plan.now (record { 0 = place }) }
+{
+    match plan.wires.get(place) {
+        Some(row) => row.name.as_slice(),
+        None => &[],
+    }
+}
+
 /// The name of a wire; empty outside the plan.
 pub fn wire_text(plan: &Plan, wire: WireId) -> &[u8]
     ensures { result.now ≡ wire_name plan.now wire }
 {
-    match plan.wires.get(wire.0 as usize) {
-        Some(row) => row.name.as_slice(),
-        None => &[],
-    }
+    wire_at(plan, wire.0 as usize)
 }
 
 /// The name of a wire as a word.
@@ -95,7 +116,7 @@ pub fn cause_text(cause: DropCause) -> &'static str
 pub fn wire_end_text(down: Option<Down>) -> &'static str
     ensures { result.now ≡ wire_end_name down }
 {
-    word_of(Choice::End, end_place(down))
+    word_of(Choice::End, wire_end_place(down))
 }
 
 /// The state of a session by its name; after `Ended` stands a colon and the reason.

@@ -1,6 +1,6 @@
 //! What the words of a choice tell, by their places.
 ghost use Rattle.std.specs.Prelude.{◌≡◌};
-ghost use Rattle.report_text.specs.Choices.{all_causes, all_ends, all_states, cause_at, cause_place, end_at, end_place, state_at, state_place, switch_place};
+ghost use Rattle.line_shapes.specs.Choices.{all_causes, all_wire_ends, all_states, cause_at, cause_place, wire_end_at, wire_end_place, state_at, state_place, switch_place};
 
 use net_base::{Down, DropCause, Reason, StateName};
 
@@ -75,7 +75,7 @@ pub fn cause_place(cause: DropCause) -> u64
 
 // All ends of wires: one that forwards, and why others do not.
 fn ends() -> [Option<Down>; 9]
-    ensures { result ≡ all_ends }
+    ensures { result ≡ all_wire_ends }
 {
     [
         None,
@@ -91,8 +91,8 @@ fn ends() -> [Option<Down>; 9]
 }
 
 /// A wire's end at a place: `None` where it forwards.
-pub fn end_at(place: u64) -> Option<Down>
-    ensures { result ≡ end_at place }
+pub fn wire_end_at(place: u64) -> Option<Down>
+    ensures { result ≡ wire_end_at place }
 {
     match ends().get(place as usize) {
         Some(end) => *end,
@@ -101,8 +101,8 @@ pub fn end_at(place: u64) -> Option<Down>
 }
 
 /// The place of a wire's end.
-pub fn end_place(end: Option<Down>) -> u64
-    ensures { result ≡ end_place end }
+pub fn wire_end_place(end: Option<Down>) -> u64
+    ensures { result ≡ wire_end_place end }
 {
     match end {
         None => 0,
