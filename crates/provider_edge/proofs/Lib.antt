@@ -12,6 +12,7 @@ pub mod EffectLemmas
 pub mod ForwardLemmas
 pub mod GivenLemmas
 pub mod HeardLemmas
+pub mod HoldingLemmas
 pub mod KeptLemmas
 pub mod LiftLemmas
 pub mod MarkLemmas

@@ -25,7 +25,7 @@ use Rattle.peer_dialogue.specs.Heard.{CanBeHeard}
 use Rattle.peer_dialogue.specs.Hearing.{HearsOn, IsAtFault, IsAtPdu, IsWaiting, IsWaitingFor, alive}
 use Rattle.peer_dialogue.specs.Peering.{at_edge}
 use Rattle.peer_dialogue.proofs.HearLemmas.{ended_all, heard_fault, heard_pdu, held_all, messages_more}
-use Rattle.peer_dialogue.proofs.SpeakerLemmas.{put_same, put_twice, read_peer}
+use Rattle.peer_dialogue.proofs.SpeakerLemmas.{read_peer}
 use Rattle.provider_edge.specs.Hearing.{AreTakenOut}
 use Rattle.provider_edge.specs.Sessions.{longest_of}
 use Rattle.provider_edge.specs.Lists.{EdgeLists, seen}
@@ -200,39 +200,6 @@ all_ended c plan told peer octets left work calls out gone on = by ((seen c).pee
 pub taken_none : (peer : EdgeId) (x : Option Peering) (old mid : EdgeState) → AreTakenOut peer x old mid None → (x ≡ None) × (mid ≡ old)
 taken_none peer None old mid none = (refl, none.1)
 taken_none peer (Some kept) old mid some = absurd (cc (some.0))
-
--- nothing was kept, and so nothing was taken out
-pub untaken : (peer : EdgeId) (taken : Option Peering) (old mid : EdgeState) → taken ≡ old.peering peer.0 → taken ≡ None → mid ≡ with_peering peer None old
-    → AreTakenOut peer (old.peering peer.0) old mid None
-untaken peer taken old mid read none took =
-    let gone : old.peering peer.0 ≡ None = sym read ∙ none in
-    subst (λ (x : Option Peering). AreTakenOut peer x old mid None) (sym gone) (refl, took ∙ put_same peer None old gone)
-
--- the octets were taken out of what was kept, and the rest was put back
-pub taken_held : (peer : EdgeId) (taken : Option Peering) (kept left : Peering) (held : List ℕ) (old mid new : EdgeState) → taken ≡ old.peering peer.0 → taken ≡ Some kept → held
-    ≡ kept.held → left ≡ record kept { held = [] }
-    → mid ≡ with_peering peer None old → new ≡ with_peering peer (Some left) mid → AreTakenOut peer (old.peering peer.0) old new (Some held)
-taken_held peer taken kept left held old mid new read some is rest took puts =
-    subst (λ (x : Option Peering). AreTakenOut peer x old new (Some held)) (sym (sym read ∙ some))
-    (ap Some is, puts ∙ (ap (with_peering peer (Some left)) took ∙ (put_twice peer None (Some left) old ∙ ap (λ (p : Peering). with_peering peer (Some p) old) rest)))
-
--- octets are held of what was kept
-pub now_held : (peer : EdgeId) (taken : Option Peering) (kept left : Peering) (held : List ℕ) (old mid new : EdgeState) (calls : List LinkCall) (out : List Effect) → taken
-    ≡ old.peering peer.0 → taken ≡ Some kept → left ≡ record kept { held = held }
-    → mid ≡ with_peering peer None old → new ≡ with_peering peer (Some left) mid → at_edge new calls out ≡ holds peer held (old.peering peer.0) (at_edge old calls out)
-unfolding at_edge changes
-now_held peer taken kept left held old mid new calls out read some is took puts =
-    ap (λ (e : EdgeState). record { edge = e; calls = calls; effects = out; idle = false })
-    (puts ∙ (ap (with_peering peer (Some left)) took ∙ (put_twice peer None (Some left) old ∙ ap (λ (p : Peering). with_peering peer (Some p) old) is)))
-    ∙ ap (λ (x : Option Peering). holds peer held x (record { edge = old; calls = calls; effects = out; idle = false })) (sym some ∙ read)
-
--- and none are where nothing was kept
-pub not_held : (peer : EdgeId) (taken : Option Peering) (held : List ℕ) (old mid : EdgeState) (calls : List LinkCall) (out : List Effect) → taken ≡ old.peering peer.0 → taken ≡ None
-    → mid ≡ with_peering peer None old → at_edge mid calls out ≡ holds peer held (old.peering peer.0) (at_edge old calls out)
-unfolding at_edge
-not_held peer taken held old mid calls out read none took =
-    ap (λ (e : EdgeState). record { edge = e; calls = calls; effects = out; idle = false }) (took ∙ put_same peer None old (sym read ∙ none))
-    ∙ ap (λ (x : Option Peering). holds peer held x (record { edge = old; calls = calls; effects = out; idle = false })) (sym none ∙ read)
 
 -- what is held is taken out before more is heard: it tells nothing of how more is heard
 pub held_heard : (plan : Plan) (told : Answers) (peer : EdgeId) (octets held : List ℕ) (old mid : EdgeState) (calls : List LinkCall) (out : List Effect) (work : Work)

@@ -3,7 +3,7 @@ use Rattle.std.proofs.Common.{◌≡◌, ◌≤◌, ◌<◌, ◌+◌, ◌-◌, �
 use Rattle.std.specs.List.{list_all}
 use Rattle.std.specs.Prelude.{All}
 use Rattle.std.proofs.Math.ListN.{drop_of_length-le}
-use Rattle.std.proofs.lemmas.Bool.{cases_Bool}
+use Rattle.std.proofs.lemmas.Bool.{cases_Bool, eqb-true}
 use Rattle.std.proofs.lemmas.Bool.Decides.{nat_tests}
 use Rattle.std.proofs.lemmas.List.{length-map}
 use Rattle.std.proofs.lemmas.List.Elements.{All-cons, All-head, All-nil, All-tail}
@@ -17,7 +17,7 @@ use Rattle.pw_ends.specs.Marks.{is_marked}
 use Rattle.edge_forwarding.proofs.Views.{view_at}
 use Rattle.peer_dialogue.specs.Peering.{gone, held_octets, peering_later, session_name}
 use Rattle.provider_edge.specs.Bounds.{HoldsFew, most_pdu_octets}
-use Rattle.provider_edge.specs.Sessions.{AreStanding, AreWatched, all_later, least_quiet, longest_of, quiet_for}
+use Rattle.provider_edge.specs.Sessions.{AreStanding, AreWatched, all_later, holding, least_quiet, longest_of, quiet_for}
 
 -- one of them later
 abbrev pub one_later : ℕ → Option Peering → Option Peering
@@ -235,6 +235,38 @@ watched_set standing marks passed spare left place kept now x are is fewer quiet
     by k below absent (inr apart) =
         let there : is_there (slice_index_or now k None) ≡ false = sym (ap (λ (b : Bool). is_there (cond b x (slice_index_or now k None))) apart) ∙ (sym (read k) ∙ absent) in
         rw apart (are.marked k below (sym (there_at passed kept k) ∙ (sym (ap (λ l. is_there (slice_index_or l k None)) is) ∙ there)))
+
+-- with other octets held it is there, and has as many ticks
+pub there_holding : (held : List ℕ) (x : Option Peering) → is_there (holding held x) ≡ is_there x
+there_holding held None = refl
+there_holding held (Some kept) = refl
+
+quiet_holding : (held : List ℕ) (x : Option Peering) → quiet_for (holding held x) ≡ quiet_for x
+quiet_holding held None = refl
+quiet_holding held (Some kept) = refl
+
+-- the ticks are counted, and of one other octets are held
+pub watched_held : (standing : PeerMarks) (passed spare place : ℕ) (kept now : List (Option Peering)) (held : List ℕ) → AreWatched standing passed spare kept
+    → now ≡ all_later passed kept → place < length now → AreWatched standing 0 spare (slice_set now place (holding held (slice_index_or now place None)))
+watched_held standing passed spare place kept now held are is within = record {
+  quiet = omega (arith, quiet_set spare now place (holding held one) counted (subst (λ (n : ℕ). spare ≤ n) (sym (quiet_holding held one)) (quiet_read spare now place counted)));
+  marked = λ k below absent. by k below (sym (ap is_there (view_at None now place (holding held one) k within)) ∙ absent) (cases_Bool (k == place));
+}
+  where
+    one : Option Peering
+    one = slice_index_or now place None
+
+    counted : spare ≤ least_quiet now
+    counted = subst (λ (l : List (Option Peering)). spare ≤ least_quiet l) (sym is) (quiet_later passed spare kept are.quiet)
+
+    stood : (k : ℕ) → k < 64 → is_there (slice_index_or now k None) ≡ false → is_marked standing k ≡ false
+    stood k below absent = are.marked k below (sym (there_at passed kept k) ∙ (sym (ap (λ (l : List (Option Peering)). is_there (slice_index_or l k None)) is) ∙ absent))
+
+    by : (k : ℕ) → k < 64 → is_there (cond (k == place) (holding held one) (slice_index_or now k None)) ≡ false → ((k == place) ≡ true) ⊎ ((k == place) ≡ false) → is_marked standing k ≡ false
+    by k below absent (inl same) =
+        stood k below (ap (λ (n : ℕ). is_there (slice_index_or now n None)) (eqb-true k place same)
+        ∙ (sym (there_holding held one) ∙ (sym (ap (λ (b : Bool). is_there (cond b (holding held one) (slice_index_or now k None))) same) ∙ absent)))
+    by k below absent (inr apart) = stood k below (sym (ap (λ (b : Bool). is_there (cond b (holding held one) (slice_index_or now k None))) apart) ∙ absent)
 
 -- the ticks that may pass are few enough to be counted
 pub watched_few : (standing : PeerMarks) (passed spare : ℕ) (kept : List (Option Peering)) → AreWatched standing passed spare kept → passed + spare < 2 ^ 64

@@ -324,10 +324,3 @@ pub tidy_happened : (plan : Plan) (peer : EdgeId) (before left : Option Peering)
 tidy_happened plan peer before left up old mid put new marks tidy at read took puts clears stands =
     subst (λ (e : EdgeState). IfSome marks (IsTidy plan e)) (sym (cleared_there peer put new clears (there_put peer left mid put puts (stands_there up left stands))))
     (tidy_put plan peer before left old mid put marks tidy read took puts (stands_up up left stands ∙ (at ∙ ap was_up (sym read))))
-
--- a session that is kept with other octets
-pub tidy_kept : (plan : Plan) (peer : EdgeId) (kept left : Peering) (before : Option Peering) (old mid new : EdgeState) (marks : Option EndMarks) → IfSome marks (IsTidy plan old)
-    → before ≡ old.peering peer.0 → before ≡ Some kept → mid ≡ with_peering peer None old → new ≡ with_peering peer (Some left) mid → left.session ≡ kept.session → IfSome marks (IsTidy plan new)
-tidy_kept plan peer kept left before old mid new marks tidy read some took puts same =
-    tidy_put plan peer before (Some left) old mid new marks tidy read took puts
-    (ap (λ s. was_up (Some (record left { session = s }))) same ∙ ap was_up (sym some))

@@ -10,6 +10,11 @@ use Rattle.peer_dialogue.specs.Peering.{peering_later}
 abbrev pub all_later : ℕ → List (Option Peering) → List (Option Peering)
 all_later ticks kept = map (option_map (peering_later ticks)) kept
 
+-- the same with these octets held, where something is kept
+abbrev pub holding : List ℕ → Option Peering → Option Peering
+holding held None = None
+holding held (Some kept) = Some (record kept { held = held })
+
 -- for how many ticks the session has nothing to do; where none stands there is no limit
 abbrev pub quiet_for : Option Peering → ℕ
 quiet_for None = 2 ^ 64 - 1

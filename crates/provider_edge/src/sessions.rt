@@ -1,13 +1,13 @@
 //! What an edge keeps of its neighbours.
-ghost use Rattle.std.specs.Prelude.{◌≡◌, ◌≤◌, ◌<◌, ◌==◌, ◌||◌, ℕ, IfOk, IfSome, None, false, if◌then◌else◌, length, map, min, nat_lt, not, option_copied, option_map, replicate, slice_index_or, slice_set, true};
+ghost use Rattle.std.specs.Prelude.{◌≡◌, ◌≤◌, ◌<◌, ◌==◌, ◌||◌, [], ℕ, IfOk, IfSome, None, false, if◌then◌else◌, length, map, min, nat_lt, not, option_copied, option_map, replicate, slice_index_or, slice_set, true};
 ghost use Rattle.std.specs.List.{list_all};
 ghost use Rattle.pw_ends.specs.Marks.{is_marked};
 ghost use Rattle.edge_model.specs.{Hear.{was_up}, State.{is_there}};
 ghost use Rattle.peer_dialogue.specs.Peering.{gone, held_octets, peering_later, session_name};
-ghost use Rattle.provider_edge.specs.{Sessions.{AreStanding, all_later, least_quiet, longest_of, quiet_for}};
+ghost use Rattle.provider_edge.specs.{Sessions.{AreStanding, all_later, holding, least_quiet, longest_of, quiet_for}};
 
 use net_base::{EdgeId, NoMemory, StateName};
-use peer_dialogue::Peering;
+use peer_dialogue::{Held, Peering};
 use pw_ends::PeerMarks;
 use std::alloc::Global;
 use std::marker::Model;
@@ -158,6 +158,27 @@ impl Sessions {
         self.kept[peer.0 as usize] = kept;
     }
 
+    /// Takes out the octets that are held of a neighbour, so that none are, where something is kept of it.
+    pub(crate) fn take_held(&mut self, peer: EdgeId) -> Option<Held>
+        requires { peer.0 < length self.old }
+        ensures taken { result ≡ option_map (λ kept. kept.held) (slice_index_or self.old peer.0 None) }
+        ensures rest { self.new ≡ slice_set self.old peer.0 (holding [] (slice_index_or self.old peer.0 None)) }
+    {
+        pass_all(&mut self.kept, self.passed);
+        self.passed = 0;
+        take_held(&mut self.kept[peer.0 as usize])
+    }
+
+    /// Holds octets of a neighbour, where something is kept of it.
+    pub(crate) fn hold(&mut self, peer: EdgeId, held: Held)
+        requires { peer.0 < length self.old }
+        ensures { self.new ≡ slice_set self.old peer.0 (holding held (slice_index_or self.old peer.0 None)) }
+    {
+        pass_all(&mut self.kept, self.passed);
+        self.passed = 0;
+        hold(&mut self.kept[peer.0 as usize], held);
+    }
+
     /// Nothing is kept of any neighbour.
     pub(crate) fn clear(&mut self)
         ensures { self.new ≡ map gone self.old }
@@ -211,6 +232,26 @@ fn look(kept: &[Option<Peering>], peer: EdgeId) -> Option<&Peering>
     match kept.get(peer.0 as usize) {
         Some(Some(peering)) => Some(peering),
         Some(None) | None => None,
+    }
+}
+
+// Takes out the octets that are held, where something is kept.
+fn take_held(kept: &mut Option<Peering>) -> Option<Held>
+    ensures taken { result ≡ option_map (λ kept. kept.held) kept.old }
+    ensures rest { kept.new ≡ holding [] kept.old }
+{
+    match kept {
+        Some(peering) => Some(peering.take_held()),
+        None => None,
+    }
+}
+
+// Holds octets, where something is kept.
+fn hold(kept: &mut Option<Peering>, held: Held)
+    ensures { kept.new ≡ holding held kept.old }
+{
+    if let Some(peering) = kept {
+        peering.hold(held);
     }
 }
 

@@ -4,7 +4,7 @@ ghost use Rattle.edge_model.specs.declared.effect.Effect.{Effect};
 ghost use Rattle.edge_model.specs.{Hear.{acts_on, advice_of, advises, hears, hears_message, hears_pdu, holds}, State.{has_end}};
 ghost use Rattle.edge_model.specs.declared.input.Input.TheVariants.{Octets};
 ghost use Rattle.net_base.specs.declared.outside.link_call.LinkCall.{LinkCall};
-ghost use Rattle.std.specs.{Prelude.{◌≡◌, ◌<◌, ◌+◌, ◌++◌, List, ℕ, true, Some, OnOk}, List.{AllByRecursion}};
+ghost use Rattle.std.specs.{Prelude.{◌≡◌, ◌<◌, ◌+◌, ◌++◌, List, ℕ, true, Some, OnOk, length}, List.{AllByRecursion}};
 ghost use Rattle.net_values.specs.Octets.{AreOctets};
 ghost use Rattle.peer_dialogue.specs.{Heard.{CanBeHeard}, Hearing.{HearsOn, IsWaitingFor, alive}, Peering.{at_edge}};
 ghost use Rattle.provider_edge.specs.{AtWork.{IsBegun, Takes, TakesBy, Works, WorksBy, at_work}, Hearing.{AreTakenOut}};
@@ -42,28 +42,23 @@ impl Edge {
         ensures keeps { Keeps self.old self.new }
         ensures step { AreTakenOut peer ((seen self.old).peering peer.0) (seen self.old) (seen self.new) result }
     {
-        let marks = self.marks;
-        let Some(mut peering) = self.take_peering(peer) else {
+        if peer.0 as usize >= self.peerings.len() {
             return None;
-        };
-        let held = peering.take_held();
-        self.put_peering(peer, Some(peering));
-        self.keep_marks(marks);
-        Some(held)
+        }
+        self.peerings.take_held(peer)
     }
 
     // Holds octets of a peer, where the edge's end of the connection stands.
     fn hold(&mut self, peer: EdgeId, held: Held)
         requires working { self.old.stopped ≡ true }
+        requires few { length held < 4100 }
         ensures keeps { Keeps self.old self.new }
         ensures step { (calls : List LinkCall) (out : List Effect) → at_edge (seen self.new) calls out ≡ holds peer held ((seen self.old).peering peer.0) (at_edge (seen self.old) calls out) }
     {
-        let marks = self.marks;
-        if let Some(mut peering) = self.take_peering(peer) {
-            peering.hold(held);
-            self.put_peering(peer, Some(peering));
-            self.keep_marks(marks);
+        if peer.0 as usize >= self.peerings.len() {
+            return;
         }
+        self.peerings.hold(peer, held);
     }
 
     // Octets are heard behind those that were held of a peer. PDUs are heard one after another, each within the maximum

@@ -38,6 +38,9 @@ returns-then-at-octets-clause-step g c = λ told agrees.
 pub feed_from-requires-clause-room : goal.feed_from-requires-clause-room
 feed_from-requires-clause-room g c = room_for c.hear_held.new.self c.args.peer c.hear_held.new.held c.has_end.result c.has_end.ensures c.if-not-has_end.false c.in_ok-hear_held.ensures.waiting
 
+pub hold-requires-clause-few : goal.hold-requires-clause-few
+hold-requires-clause-few g c = room_for c.hear_held.new.self c.args.peer c.hear_held.new.held c.has_end.result c.has_end.ensures c.if-not-has_end.false c.in_ok-hear_held.ensures.waiting
+
 pub hearing-preserved : goal.hearing-preserved
 hearing-preserved g c = record {
   within = c.in_ok-at.ensures.within;
