@@ -101,7 +101,7 @@ module _ (plan : Plan) where
 
   row_event_again : (kind : List ℕ) (words : List (List ℕ)) → IfSome (row_event plan (kind ∷ words)) (λ e. event_words plan e ≡ kind ∷ words)
   unfolding row_event have_kinds
-  row_event_again kind words = rows_hold plan event_forms event_made (λ x l. event_words plan x ≡ l) kind words refl (λ row lt v fit. (below_all (EventRow plan) 13 row (event_rows plan) lt v fit).1)
+  row_event_again kind words = rows_hold plan event_forms event_made (λ x l. event_words plan x ≡ l) kind words refl (λ row lt v fit. (below_all (EventRow plan) (length event_forms) row (event_rows plan) lt v fit).1)
 
   event_again : (words : List (List ℕ)) → IfSome (event_told plan words) (λ e. event_words plan e ≡ words)
   event_again [] = tt

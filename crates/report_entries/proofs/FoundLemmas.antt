@@ -72,10 +72,10 @@ abbrev as_wire : Option ℕ → Option WireId
 as_wire place = option_map (λ (n : ℕ). record { 0 = n }) place
 
 -- no row is that of a frame
-no_frame : (plan : Plan) (row : ℕ) (values : List ℕ) → row < 13 → event_told plan (row_words plan (form_at event_forms row) values) ≡ row_event plan (row_words plan (form_at event_forms row) values)
+no_frame : (plan : Plan) (row : ℕ) (values : List ℕ) → row < length event_forms → event_told plan (row_words plan (form_at event_forms row) values) ≡ row_event plan (row_words plan (form_at event_forms row) values)
 unfolding all_below
 no_frame plan row values lt =
-    rw (not-true (bytes_eq (form_at event_forms row).word (codes "frame")) (below_at (λ n. not (bytes_eq (form_at event_forms n).word (codes "frame"))) 13 row refl lt)) refl
+    rw (not-true (bytes_eq (form_at event_forms row).word (codes "frame")) (below_at (λ n. not (bytes_eq (form_at event_forms n).word (codes "frame"))) (length event_forms) row refl lt)) refl
 
 module _ (plan : Plan) (names : HasNames plan) where
   edge_found : (a : EdgeId) → IsNamedEdge plan a → edge_of_word (names_of plan) (edge_name plan a) ≡ Some a

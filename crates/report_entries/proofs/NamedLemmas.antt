@@ -111,7 +111,7 @@ module _ (plan : Plan) where
 
   row_event_is : (kind : List ℕ) (words : List (List ℕ)) → IfSome (row_event plan (kind ∷ words)) (IsNamedEvent plan)
   unfolding row_event have_kinds
-  row_event_is kind words = rows_hold plan event_forms event_made (λ x l. IsNamedEvent plan x) kind words refl (λ row lt v fit. (below_all (EventRow plan) 13 row (event_rows plan) lt v fit).0)
+  row_event_is kind words = rows_hold plan event_forms event_made (λ x l. IsNamedEvent plan x) kind words refl (λ row lt v fit. (below_all (EventRow plan) (length event_forms) row (event_rows plan) lt v fit).0)
 
   event_is : (words : List (List ℕ)) → IfSome (event_told plan words) (IsNamedEvent plan)
   event_is [] = tt
