@@ -1,5 +1,5 @@
 -- The window of a frame that enters.
-use Rattle.std.proofs.Common.{◌≡◌, ◌==◌, ◌≤◌, ◌+◌, ◌∷◌, ◌∙◌, [], ℕ, Bool, true, false, List, Option, Some, None, cond, length, refl, sym, subst, arith}
+use Rattle.std.proofs.Common.{◌≡◌, ◌==◌, ◌≤◌, ◌+◌, ◌∷◌, ◌∙◌, [], ℕ, Bool, true, false, List, Option, Some, None, cond, length, option_map, refl, ap, sym, subst, arith}
 use Rattle.net_base.specs.declared.plan.Plan.{Plan}
 use Rattle.net_base.specs.declared.plan.places.CircuitId.{CircuitId}
 use Rattle.net_base.specs.declared.plan.places.ServiceId.{ServiceId}
@@ -12,8 +12,8 @@ use Rattle.seen_network.specs.EventEntries.{entered_place}
 use Rattle.seen_network.specs.Windows.{Describes, HasOpened, IsOpened, Opens, OpensOne}
 use Rattle.seen_network.specs.declared.window.Window.{Window}
 use Rattle.window_audit.specs.During.{IsFirst}
-use Rattle.window_audit.specs.Opening.{OpensWith}
-use Rattle.window_audit.specs.WindowState.{FrameOpens}
+use Rattle.window_audit.specs.Opening.{OpensWith, window_with}
+use Rattle.window_audit.specs.WindowState.{FrameOpens, IsFirstOf, placed_behind}
 use Rattle.window_audit.specs.declared.opening.Opening.{Opening}
 
 -- the entry stands among them
@@ -39,30 +39,37 @@ place_within circuit (entry.Pong edge wire sequence ∷ es) = omega (arith, plac
 
 -- ---- a frame at a circuit
 
-pub none_entered : (plan : Plan) (before : List Entry) (circuit : CircuitId) (octets : List ℕ) (rest : List Entry) → IsFirst circuit rest None → FrameOpens plan before circuit octets rest None
-none_entered plan before circuit octets rest first service origin opened = absurd (cc (first.number ∙ opened.entered))
-
-pub none_may : (plan : Plan) (before : List Entry) (circuit : CircuitId) (octets : List ℕ) (rest : List Entry) → OpensWith plan (seen_in before) circuit octets None
-    → FrameOpens plan before circuit octets rest None
-none_may plan before circuit octets rest none service origin opened =
-    none service (record { sender = opened.sender; on = opened.on; formed = record { frame = opened.frame; formed = opened.formed }; calm = opened.calm })
-
-pub one_opens : (plan : Plan) (before : List Entry) (circuit : CircuitId) (octets : List ℕ) (rest : List Entry) (origin place ahead : ℕ) (opening : Opening)
-    → IsFirst circuit rest (Some (origin, ahead)) → place ≡ length before → OpensWith plan (seen_in before) circuit octets (Some opening)
-    → FrameOpens plan before circuit octets rest (Some (record {
-      place = place + ahead;
-      sender = circuit;
-      service = opening.service;
-      origin = origin;
-      destination = opening.destination;
-      sites = opening.sites;
-    }))
-one_opens plan before circuit octets rest origin place ahead opening first at opens = record {
-  service = opening.service;
-  origin = origin;
-  opened = record { entered = sym first.number; sender = opens.0.sender; on = opens.0.on; frame = opens.0.formed.frame; formed = opens.0.formed.formed; calm = opens.0.calm };
-  describes = record { place = (λ i. at i + first.place i); sender = refl; service_is = refl; origin_is = refl; goes = opens.1; sites = opens.2 };
+-- no window opens where no frame entered
+pub none_entered : (plan : Plan) (before : List Entry) (event : Event) (rest : List Entry) (first : Option (ℕ × ℕ)) → IsFirstOf event rest first
+    → None ≡ option_map (placed_behind (length before)) first → IsOpened plan before event rest None
+none_entered plan before event rest None first none = record {
+  only = λ w is. absurd (cc (is));
+  each = λ circuit octets service origin is opened. absurd (cc ((first circuit octets is).number ∙ opened.entered));
 }
+none_entered plan before event rest (Some found) first none = absurd (cc (none))
+
+-- or where nothing opens one
+pub with_opens : (plan : Plan) (before : List Entry) (circuit : CircuitId) (octets : List ℕ) (rest : List Entry) (entered : ℕ × ℕ) (first : Option (ℕ × ℕ)) (opening : Option Opening)
+    → IsFirst circuit rest first → Some entered ≡ option_map (placed_behind (length before)) first → OpensWith plan (seen_in before) circuit octets opening
+    → FrameOpens plan before circuit octets rest (option_map (window_with circuit entered) opening)
+with_opens plan before circuit octets rest entered first None at is none = λ service origin opened.
+    none service (record { sender = opened.sender; on = opened.on; formed = record { frame = opened.frame; formed = opened.formed }; calm = opened.calm })
+with_opens plan before circuit octets rest entered None (Some opening) at is opens = absurd (cc (is))
+with_opens plan before circuit octets rest entered (Some found) (Some opening) at is opens = record {
+  service = opening.service;
+  origin = entered.0;
+  opened = record { entered = sym at.number ∙ ap Some (sym (number is)); sender = opens.0.sender; on = opens.0.on; frame = opens.0.formed.frame; formed = opens.0.formed.formed; calm = opens.0.calm };
+  describes = record { place = place is ∙ ap (λ (n : ℕ). length before + n) at.place; sender = refl; service_is = refl; origin_is = refl; goes = opens.1; sites = opens.2 };
+} where
+  pair : Option (ℕ × ℕ) → ℕ × ℕ
+  pair None = entered
+  pair (Some p) = p
+
+  number : Some entered ≡ Some (placed_behind (length before) found) → entered.0 ≡ found.0
+  number same = ap (λ (o : Option (ℕ × ℕ)). (pair o).0) same
+
+  place : Some entered ≡ Some (placed_behind (length before) found) → entered.1 ≡ length before + found.1
+  place same = ap (λ (o : Option (ℕ × ℕ)). (pair o).1) same
 
 -- ---- the event
 

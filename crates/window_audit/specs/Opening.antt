@@ -11,6 +11,7 @@ use Rattle.seen_network.specs.Calm.{is_seen_calm}
 use Rattle.seen_network.specs.Once.{is_seen_site}
 use Rattle.seen_network.specs.Seen.{Seen}
 use Rattle.seen_network.specs.Windows.{GoesTo}
+use Rattle.seen_network.specs.declared.window.Window.{Window}
 use Rattle.window_audit.specs.declared.opening.Opening.{Opening}
 
 -- the frame has no fault
@@ -51,3 +52,14 @@ InnerGoes plan circuit octets opening = (frame : List ℕ) → inner_at plan cir
 abbrev pub OpensWith : Plan → Seen → CircuitId → List ℕ → Option Opening → Type 0
 OpensWith plan seen circuit octets None = (service : ServiceId) → MayOpen plan seen circuit octets service → ⊥
 OpensWith plan seen circuit octets (Some opening) = MayOpen plan seen circuit octets opening.service × InnerGoes plan circuit octets opening × AreSites plan seen opening.service circuit opening.sites
+
+-- the window of a frame of which this is known, which entered under a number behind so many entries
+abbrev pub window_with : CircuitId → ℕ × ℕ → Opening → Window
+window_with sender entered opening = record {
+  place = entered.1;
+  sender = sender;
+  service = opening.service;
+  origin = entered.0;
+  destination = opening.destination;
+  sites = opening.sites;
+}

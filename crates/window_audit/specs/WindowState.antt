@@ -1,5 +1,5 @@
 -- What is known behind the events that are over.
-use Rattle.std.specs.Prelude.{◌≡◌, ◌≤◌, ℕ, List, Option, Some, None}
+use Rattle.std.specs.Prelude.{◌≡◌, ◌≤◌, ◌+◌, ℕ, List, Option, Some, None}
 use Rattle.net_base.specs.declared.plan.Plan.{Plan}
 use Rattle.net_base.specs.declared.plan.places.CircuitId.{CircuitId}
 use Rattle.net_base.specs.declared.plan.places.ServiceId.{ServiceId}
@@ -31,6 +31,10 @@ pub record IsWindowStateOf (plan : Plan) (known : WindowState) : Type 0 where
 -- a frame that the event put at a circuit entered first so
 abbrev pub IsFirstOf : Event → List Entry → Option (ℕ × ℕ) → Type 0
 IsFirstOf event rest first = (circuit : CircuitId) (octets : List ℕ) → event ≡ Frame circuit octets → IsFirst circuit rest first
+
+-- under which number a frame entered, and how many entries stand before that, of which so many stand before others
+abbrev pub placed_behind : ℕ → ℕ × ℕ → ℕ × ℕ
+placed_behind count first = (first.0, count + first.1)
 
 -- the window of a frame that entered by an event
 pub record OpensOf (plan : Plan) (before : List Entry) (circuit : CircuitId) (octets : List ℕ) (during : List Entry) (window : Window) : Type 0 where

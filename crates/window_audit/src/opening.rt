@@ -7,7 +7,7 @@ ghost use Rattle.window_audit.specs.{CalmMemory.{Remembers}, Opening.{AreSites, 
 
 use crate::address::address_at;
 use crate::calm_memory::CalmMemory;
-use eth_encap::inner_parts;
+use eth_encap::inner_at;
 use hvpls_spokes::PortSet;
 use net_base::{CircuitId, CircuitPlan, Plan, ServiceId};
 use net_values::Mac;
@@ -80,15 +80,10 @@ fn may_open(
 fn is_formed(plan: &Plan, circuit: CircuitId, octets: &[u8]) -> bool
     ensures { result ≡ is_good (inner_at plan.now circuit octets.now) }
 {
-    let Some(row) = plan.circuits.get(circuit.0 as usize) else {
-        return false;
-    };
-    let Some(service) = plan.services.get(row.service.0 as usize) else {
-        return false;
-    };
-    match inner_parts(row.tag, service.mtu, octets) {
-        Ok(_) => true,
-        Err(_) => false,
+    match inner_at(plan, circuit, octets) {
+        Some(Ok(_)) => true,
+        Some(Err(_)) => false,
+        None => false,
     }
 }
 

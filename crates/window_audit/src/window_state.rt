@@ -1,12 +1,12 @@
 //! What is known behind the events that are over.
-ghost use Rattle.std.specs.Prelude.{◌≡◌, ◌<◌, ◌≤◌, ◌+◌, ◌++◌, ◌∷◌, ◌^◌, [], ℕ, true, None, Some, List as Items, length, IfOk, OnOk};
+ghost use Rattle.std.specs.Prelude.{◌≡◌, ◌<◌, ◌≤◌, ◌+◌, ◌++◌, ◌∷◌, ◌^◌, [], ℕ, true, None, Some, List as Items, length, option_map, IfOk, IfSome, OnOk};
 ghost use Rattle.net_base.specs.{declared.plan.Plan.{Plan as Planned}, declared.trace.entry.Entry.{Entry as Told}};
 ghost use Rattle.net_base.specs.{declared.trace.entry.Entry.TheVariants.{Did}, plan.Accepted.{IsWithinLimits}};
 ghost use Rattle.seen_network.specs.{EventEntries.{HasNoEvent}, Seen.{Seen, seen_from}, Verdict.{OnceAnswers}};
 ghost use Rattle.seen_network.specs.{Windows.{AreOwed}, declared.window.Window.{Window as Found}};
 ghost use Rattle.seen_state.specs.{SeenState.{Knows}, SeenEdges.{sizes_of}};
 ghost use Rattle.window_audit.specs.{CalmMemory.{Remembers}, During.{AreKept, AreTold, with_event}, Exits.{HasExits}};
-ghost use Rattle.window_audit.specs.{OpenWindows.{is_one_of, windows_at, with_found}, Losses.{AreWithin}, WindowState.{HasWindows, IsWindowStateOf}, Sources.{HasSources}};
+ghost use Rattle.window_audit.specs.{OpenWindows.{is_one_of, windows_at, with_found}, Losses.{AreWithin}, WindowState.{HasWindows, IsWindowStateOf, placed_behind}, Sources.{HasSources}};
 
 use crate::calm_memory::CalmMemory;
 use crate::closed::close;
@@ -66,11 +66,17 @@ impl WindowState {
         ensures place { self.new.place ≡ self.old.place + during.now.count }
         ensures windows { OnOk result ((done rest : Items Told) → AreTold rest during.now → (during.now.event ≡ None → done ≡ []) → self.old.place ≡ length done → HasWindows plan.now done self.old → HasSources plan.now sources.now (done ++ with_event during.now.event rest) → HasWindows plan.now (done ++ with_event during.now.event rest) self.new) }
     {
-        let place = self.place;
-        self.place += during.count;
         match &during.event {
-            Some(event) => self.pass_event(plan, sources, place, event, during),
-            None => self.pass_first(during.kept.as_slice()),
+            Some(event) => {
+                let passed = self.pass_event(plan, sources, event, during);
+                self.place += during.count;
+                passed
+            }
+            None => {
+                let passed = self.pass_first(during.kept.as_slice());
+                self.place += during.count;
+                passed
+            }
         }
     }
 
@@ -91,12 +97,11 @@ impl WindowState {
         tell(&mut self.state, entries, &mut self.losses)
     }
 
-    // An event is over, before which so many entries stand, and told so much. It leaves a loss for each entry that was kept, and two more.
+    // An event is over, and told so much. It leaves a loss for each entry that was kept, and two more.
     fn pass_event(
         &mut self,
         plan: &Plan,
         sources: &Sources,
-        place: u64,
         event: &Event,
         during: &During,
     ) -> Result<(), NoMemory>
@@ -104,24 +109,18 @@ impl WindowState {
         requires event { during.now.event ≡ Some event.now }
         requires kept { AreKept plan.now during.now }
         requires sizes { self.old.state.seen_edges.sizes ≡ sizes_of plan.now }
-        requires few { self.old.state.copies.comings ≤ place }
-        requires place { place + during.now.count < 2 ^ 63 }
+        requires few { self.old.state.copies.comings ≤ self.old.place }
+        requires place { self.old.place + during.now.count < 2 ^ 63 }
         ensures sizes { self.new.state.seen_edges.sizes ≡ self.old.state.seen_edges.sizes }
         ensures comings { OnOk result (self.new.state.copies.comings ≤ self.old.state.copies.comings + length during.now.kept.items) }
         ensures place { self.new.place ≡ self.old.place }
         ensures losses { OnOk result (length self.new.losses.items ≤ length during.now.kept.items + 2) }
-        ensures windows { OnOk result ((done rest : Items Told) → AreTold rest during.now → place ≡ length done → HasWindows plan.now done self.old → HasSources plan.now sources.now (done ++ Did event.now ∷ rest) → HasWindows plan.now (done ++ Did event.now ∷ rest) self.new) }
+        ensures windows { OnOk result ((done rest : Items Told) → AreTold rest during.now → self.old.place ≡ length done → HasWindows plan.now done self.old → HasSources plan.now sources.now (done ++ Did event.now ∷ rest) → HasWindows plan.now (done ++ Did event.now ∷ rest) self.new) }
     {
         let idle = during.idle;
         let kept = during.kept.as_slice();
-        let window = opened(
-            &self.state,
-            &mut self.calm,
-            plan,
-            place,
-            event,
-            during.first,
-        );
+        let entered = placed(during.first, self.place);
+        let window = opened(&self.state, &mut self.calm, plan, event, entered);
         spare(&mut self.open_windows, &self.state.copies, event, idle);
         self.losses.clear();
         self.calm.happen(event, idle);
@@ -145,6 +144,17 @@ impl WindowState {
         ensures { (trace : Items Told) → AreOwed plan.now trace self.now.owed.items → HasExits exits.now trace → OnceAnswers plan.now trace result }
     {
         first_unserved(exits, plan, self.owed.as_slice())
+    }
+}
+
+// The number under which a frame entered, and how many entries stand before that in the trace, of which so many stand before the event.
+fn placed(first: Option<(u64, u64)>, place: u64) -> Option<(u64, u64)>
+    requires { IfSome first (λ found. place + found.1 < 2 ^ 63) }
+    ensures { result ≡ option_map (placed_behind place) first }
+{
+    match first {
+        Some((origin, ahead)) => Some((origin, place + ahead)),
+        None => None,
     }
 }
 

@@ -1,12 +1,13 @@
 -- Behind the event and its entries what is known, remembered, open_windows and owed is that of the longer trace: the entries that were kept
 -- show what all show.
 use Rattle.std.proofs.lemmas.Result.{on_ok_weaker}
-use Rattle.std.proofs.Common.{◌++◌, ◌∷◌, ◌∙◌, List, Some, ℕ, ap, subst}
+use Rattle.std.proofs.Common.{◌++◌, ◌∷◌, ◌∙◌, List, Some, ℕ, ap, option_map, subst}
 use Rattle.net_base.specs.declared.trace.entry.Entry.TheVariants.{Did}
 use Rattle.seen_network.specs.Seen.{Seen, happened_or, seen_from, seen_in}
 use Rattle.window_audit.specs.CalmMemory.{Remembers}
 use Rattle.window_audit.specs.OpenWindows.{HasClosed, are_copies_over, was_flooded, windows_at}
 use Rattle.window_audit.specs.Losses.{Follows}
+use Rattle.window_audit.specs.WindowState.{placed_behind}
 use Rattle.window_audit.proofs.WindowStateLemmas.{passed_on}
 use Rattle.window_audit.proofs.window_state.WindowState.pass_event.Goals as goal
 
@@ -23,7 +24,8 @@ returns-clause-windows c = on_ok_weaker c.close.result
     c.happen-2.new.losses.items c.tell-2.new.losses.items c.open.new.losses.items
     c.args.self.now.open_windows c.spare.new.open_windows c.open.new.open_windows c.close.new.open_windows c.args.self.now.owed.items c.close.new.owed.items
     told.bare told.idle has.open_windows has.owed
-    (c.opened-window.ensures.opens done rest (λ circuit octets is. told.first circuit octets (c.requires.event ∙ ap Some is)) at has.state has.calm)
+    (c.opened-window.ensures.opens done rest c.args.during.now.first (λ circuit octets is. told.first circuit octets (c.requires.event ∙ ap Some is))
+    (c.placed-entered.ensures ∙ ap (λ (n : ℕ). option_map (placed_behind n) c.args.during.now.first) at) has.state has.calm)
     (c.spare.ensures (seen_in done) has.state.tells) first
     (subst (λ (s : Seen). Follows between s c.tell-2.new.state c.happen-2.new.losses.items c.tell-2.new.losses.items) shows then)
     (subst (λ (s : Seen). Remembers c.args.plan.now s c.tell.new.self) shows
