@@ -5,6 +5,7 @@ use Rattle.std.specs.Str.{bytes_eq}
 use Rattle.seen_state.specs.Numbered.{Values, value_at}
 use Rattle.trace_audit.specs.declared.arrivals.First.{First}
 use Rattle.trace_audit.specs.declared.entered_frame.EnteredFrame.{EnteredFrame}
+use Rattle.trace_audit.specs.declared.entered_frame.FrameParts.{FrameParts}
 
 -- a frame without the tag of its circuit, with its number and its service
 pub record Entered : Type 0 where
@@ -15,6 +16,9 @@ pub record Entered : Type 0 where
 -- a frame as it is known in its service
 abbrev pub entered_of : EnteredFrame → Entered
 entered_of came = record { number = came.number; service = came.service; frame = came.frame.items }
+
+abbrev pub parts_of : FrameParts → Entered
+parts_of frame = record { number = frame.number; service = frame.service; frame = frame.front.now ++ frame.back.now }
 
 -- both are one frame in one service under one number
 abbrev pub is_entered : Entered → Entered → Bool

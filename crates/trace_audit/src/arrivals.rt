@@ -2,9 +2,9 @@
 ghost use Rattle.std.specs.Prelude.{◌≡◌, ◌==◌, ◌≤◌, ◌<◌, ◌+◌, ◌++◌, ◌∷◌, [], ℕ, List, Some, false, length, take, drop, suc, is_some, OnOk, true, if◌then◌else◌};
 ghost use Rattle.seen_state.specs.Numbered.{value_at};
 ghost use Rattle.trace_audit.specs.Arrivals.{ArePlaced, ArePlacedInside, Entered, TellsArrivals, entered_of, first_at, first_under, frame_in};
-ghost use Rattle.trace_audit.specs.Arrivals.{has_come, has_other, is_entered, is_first, with_came};
+ghost use Rattle.trace_audit.specs.Arrivals.{has_come, has_other, is_entered, is_first, parts_of, with_came};
 
-use crate::entered_frame::{EnteredFrame, joined};
+use crate::entered_frame::{EnteredFrame, FrameParts, joined};
 use net_base::NoMemory;
 use seen_state::Numbered;
 use std::alloc::Global;
@@ -111,49 +111,39 @@ impl Arrivals {
         self.others.contains(came)
     }
 
-    /// Whether a frame, which is told in two parts, is seen to have entered under its number and in its service, as the first one under
-    /// that number. No octet is copied then.
+    /// Whether a frame is seen to have entered under its number and in its service, as the first one under that number. No octet is
+    /// copied.
     #[tactic(auto, using(crate::proofs::ArrivalLemmas::first_arrived))]
-    pub fn shows(&self, number: u64, service: u16, front: &[u8], back: &[u8]) -> bool
-        ensures { (known : List Entered) → TellsArrivals self.now known → result ≡ true → has_come known (record { number = number; service = service; frame = front.now ++ back.now }) ≡ true }
+    pub fn shows(&self, frame: FrameParts<'_>) -> bool
+        ensures { (known : List Entered) → TellsArrivals self.now known → result ≡ true → has_come known (parts_of frame.entry) ≡ true }
     {
-        match self.first(number) {
-            Some(first) => self.is_of(first, number, service, front, back),
+        match self.first(frame.number) {
+            Some(first) => self.is_of(first, frame),
             None => false,
         }
     }
 
-    // Whether a frame has this number, this service and these two parts.
-    fn is_of(&self, first: First, number: u64, service: u16, front: &[u8], back: &[u8]) -> bool
-        requires { first_at self.now.firsts (value_at self.now.places number) ≡ Some first }
-        ensures { result ≡ true → frame_in self.now.octets first ≡ record { number = number; service = service; frame = front.now ++ back.now } }
+    // Whether the first frame under a number is seen to be this one.
+    fn is_of(&self, first: First, frame: FrameParts<'_>) -> bool
+        requires { first_at self.now.firsts (value_at self.now.places frame.number) ≡ Some first }
+        ensures { result ≡ true → frame_in self.now.octets first ≡ parts_of frame.entry }
     {
-        first.number == number
-            && first.service == service
-            && are_parts(front, back, self.frame(number, first))
+        first.number == frame.number
+            && first.service == frame.service
+            && are_parts(frame.front, frame.back, self.frame(frame.number, first))
     }
 
-    /// A frame entered, which is told in two parts.
-    pub fn add(
-        &mut self,
-        alloc: Global,
-        number: u64,
-        service: u16,
-        front: &[u8],
-        back: &[u8],
-    ) -> Result<(), NoMemory>
-        ensures { OnOk result ((known : List Entered) → TellsArrivals self.old known → TellsArrivals self.new (with_came known (record { number = number; service = service; frame = front.now ++ back.now }))) }
+    /// A frame entered.
+    pub fn add(&mut self, alloc: Global, frame: FrameParts<'_>) -> Result<(), NoMemory>
+        ensures { OnOk result ((known : List Entered) → TellsArrivals self.old known → TellsArrivals self.new (with_came known (parts_of frame.entry))) }
     {
-        if self.has_number(number) || (front.len() > 0xffff || back.len() > 0xffff) {
-            let frame = joined(alloc, front, back)?;
-            let came = EnteredFrame {
-                number,
-                service,
-                frame,
-            };
+        if self.has_number(frame.number)
+            || (frame.front.len() > 0xffff || frame.back.len() > 0xffff)
+        {
+            let came = joined(alloc, frame)?;
             self.add_other(came)
         } else {
-            self.add_first(number, service, front, back)
+            self.add_first(frame)
         }
     }
 
@@ -165,24 +155,18 @@ impl Arrivals {
     }
 
     // A frame entered, the first one under its number.
-    fn add_first(
-        &mut self,
-        number: u64,
-        service: u16,
-        front: &[u8],
-        back: &[u8],
-    ) -> Result<(), NoMemory>
-        requires front { length front.now < 65536 }
-        requires back { length back.now < 65536 }
-        requires new { is_some (value_at self.old.places number) ≡ false }
-        ensures { OnOk result ((known : List Entered) → TellsArrivals self.old known → TellsArrivals self.new (with_came known (record { number = number; service = service; frame = front.now ++ back.now }))) }
+    fn add_first(&mut self, frame: FrameParts<'_>) -> Result<(), NoMemory>
+        requires front { length frame.front.now < 65536 }
+        requires back { length frame.back.now < 65536 }
+        requires new { is_some (value_at self.old.places frame.number) ≡ false }
+        ensures { OnOk result ((known : List Entered) → TellsArrivals self.old known → TellsArrivals self.new (with_came known (parts_of frame.entry))) }
     {
         let place = self.next_place();
-        let first = self.next_first(number, service, front, back);
-        self.push_octets(front)?;
-        self.push_octets(back)?;
+        let first = self.next_first(frame);
+        self.push_octets(frame.front)?;
+        self.push_octets(frame.back)?;
         self.push_first(first)?;
-        self.place(number, place)
+        self.place(frame.number, place)
     }
 
     // How many first frames there are.
@@ -193,20 +177,20 @@ impl Arrivals {
     }
 
     // A frame of which the octets are to stand behind all others.
-    fn next_first(&self, number: u64, service: u16, front: &[u8], back: &[u8]) -> First
-        requires front { length front.now < 65536 }
-        requires back { length back.now < 65536 }
-        ensures number { result.number ≡ number }
+    fn next_first(&self, frame: FrameParts<'_>) -> First
+        requires front { length frame.front.now < 65536 }
+        requires back { length frame.back.now < 65536 }
+        ensures number { result.number ≡ frame.entry.number }
         ensures at { result.at ≡ length self.now.octets }
-        ensures len { result.len ≡ length front.now + length back.now }
-        ensures service { result.service ≡ service }
+        ensures len { result.len ≡ length frame.entry.front.now + length frame.entry.back.now }
+        ensures service { result.service ≡ frame.entry.service }
         ensures inside { ArePlacedInside self.now.places self.now.firsts (length self.now.octets) }
     {
         First {
-            number,
+            number: frame.number,
             at: self.octets.len() as u64,
-            len: (front.len() + back.len()) as u32,
-            service,
+            len: (frame.front.len() + frame.back.len()) as u32,
+            service: frame.service,
         }
     }
 

@@ -1,5 +1,6 @@
 //! Frames that entered.
-ghost use Rattle.std.specs.Prelude.{◌≡◌, ◌++◌, IfOk};
+ghost use Rattle.std.specs.Prelude.{◌≡◌, IfOk};
+ghost use Rattle.trace_audit.specs.Arrivals.{entered_of, parts_of};
 
 use net_base::NoMemory;
 use std::alloc::Global;
@@ -12,12 +13,31 @@ pub struct EnteredFrame {
     pub frame: Vec<u8>,
 }
 
-/// Two parts in one piece.
-pub(crate) fn joined(alloc: Global, front: &[u8], back: &[u8]) -> Result<Vec<u8>, NoMemory>
-    ensures { IfOk result (λ octets. octets.items ≡ front.now ++ back.now) }
+/// A frame that entered or left, in two parts, without the circuit's tag: its number, and the service of the circuit.
+#[derive(Clone, Copy)]
+pub struct FrameParts<'a> {
+    pub number: u64,
+    pub service: u16,
+    pub front: &'a [u8],
+    pub back: &'a [u8],
+}
+
+/// The frame in one piece.
+pub(crate) fn joined(alloc: Global, frame: FrameParts<'_>) -> Result<EnteredFrame, NoMemory>
+    ensures { IfOk result (λ came. entered_of came ≡ parts_of frame.entry) }
 {
-    let mut octets = Vec::with_capacity(alloc, front.len() + back.len())?;
-    octets.extend_from_slice(front)?;
-    octets.extend_from_slice(back)?;
-    Ok(octets)
+    let FrameParts {
+        number,
+        service,
+        front,
+        back,
+    } = frame;
+    let mut frame = Vec::with_capacity(alloc, front.len() + back.len())?;
+    frame.extend_from_slice(front)?;
+    frame.extend_from_slice(back)?;
+    Ok(EnteredFrame {
+        number,
+        service,
+        frame,
+    })
 }

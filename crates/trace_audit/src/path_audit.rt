@@ -1,13 +1,13 @@
 //! What is known of a report behind the lines that were read.
 ghost use Rattle.std.specs.Prelude.{◌≡◌, true, ◌<◌, ◌+◌, ◌++◌, ◌^◌, List, IfOk, OnOk, option_map};
-ghost use Rattle.net_base.specs.{plan.Places.{is_mesh_wire, service_of}, trace.Split.{is_inside, is_switching_point}};
-ghost use Rattle.trace_audit.specs.Judged.{Judged, KnowsJudged, begun, came_after, crosses, entered_at, first_line, has_one, inner_found, is_crossing, is_stray, judges, with_one};
-ghost use Rattle.trace_audit.specs.Arrivals.{Entered, TellsArrivals, entered_of};
+ghost use Rattle.net_base.specs.{plan.Places.{is_mesh_wire}, trace.Split.{is_inside, is_switching_point}};
+ghost use Rattle.trace_audit.specs.Judged.{Judged, KnowsJudged, begun, came_after, crosses, entered_at, first_line, has_one, is_crossing, is_stray, judges};
+ghost use Rattle.trace_audit.specs.Arrivals.{Entered, TellsArrivals, parts_of};
 
 use crate::arrivals::Arrivals;
-use crate::entered_frame::{EnteredFrame, joined};
-use eth_encap::inner_parts;
-use net_base::{Arrival, CircuitId, Class, EdgeId, Entry, NoMemory, Plan, ServiceId, WireId};
+use crate::entered_frame::{FrameParts, joined};
+use eth_encap::inner_at;
+use net_base::{Arrival, CircuitId, Class, EdgeId, Entry, NoMemory, Plan, WireId};
 use std::alloc::Global;
 
 /// What is known of a report behind the lines that were read.
@@ -23,97 +23,46 @@ pub struct PathAudit {
     pub crossed: Option<u64>,
 }
 
-// The inner frame of what passes a circuit, in one piece; `None` where the circuit is none of the plan, or the frame has a fault.
-fn inner_octets(
-    alloc: Global,
+// A frame of a circuit as it is known in its service; `None` where the circuit is none of the plan, or the frame has a fault.
+fn came_at<'a>(
     plan: &Plan,
     circuit: CircuitId,
-    octets: &[u8],
-) -> Result<Option<Vec<u8>>, NoMemory>
-    ensures { IfOk result (λ frame. option_map (λ octets. octets.items) frame ≡ inner_found plan.now circuit octets.now) }
+    number: u64,
+    octets: &'a [u8],
+) -> Option<FrameParts<'a>>
+    ensures { option_map parts_of result ≡ entered_at plan.now circuit number octets.now }
 {
     let Some(row) = plan.circuits.get(circuit.0 as usize) else {
-        return Ok(None);
+        return None;
     };
-    let Some(service) = plan.services.get(row.service.0 as usize) else {
-        return Ok(None);
-    };
-    match inner_parts(row.tag, service.mtu, octets) {
-        Ok((front, back)) => match joined(alloc, front, back) {
-            Ok(frame) => Ok(Some(frame)),
-            Err(NoMemory) => Err(NoMemory),
-        },
-        Err(_) => Ok(None),
-    }
-}
-
-// The service of a circuit.
-fn service_at(plan: &Plan, circuit: CircuitId) -> Option<ServiceId>
-    ensures { result ≡ service_of plan.now circuit }
-{
-    match plan.circuits.get(circuit.0 as usize) {
-        Some(row) => Some(row.service),
+    match inner_at(plan, circuit, octets) {
+        Some(Ok((front, back))) => Some(FrameParts {
+            number,
+            service: row.service.0,
+            front,
+            back,
+        }),
+        Some(Err(_)) => None,
         None => None,
     }
 }
 
-// A frame of a circuit as it is known in its service; `None` as in `inner_octets`.
-fn came_at(
-    alloc: Global,
-    plan: &Plan,
-    circuit: CircuitId,
-    number: u64,
-    octets: &[u8],
-) -> Result<Option<EnteredFrame>, NoMemory>
-    ensures { IfOk result (λ came. option_map entered_of came ≡ entered_at plan.now circuit number octets.now) }
-{
-    let Some(service) = service_at(plan, circuit) else {
-        return Ok(None);
-    };
-    match inner_octets(alloc, plan, circuit, octets) {
-        Ok(Some(frame)) => Ok(Some(EnteredFrame {
-            number,
-            service: service.0,
-            frame,
-        })),
-        Ok(None) => Ok(None),
-        Err(NoMemory) => Err(NoMemory),
-    }
-}
-
-// Whether a frame that leaves at a circuit is seen to have entered before, at a circuit of the same service. It takes no memory.
-fn shows_come(plan: &Plan, came: &Arrivals, circuit: CircuitId, origin: u64, octets: &[u8]) -> bool
-    ensures { (known : List Entered) → TellsArrivals came.now known → result ≡ true → has_one known (entered_at plan.now circuit origin octets.now) ≡ true }
-{
-    let Some(row) = plan.circuits.get(circuit.0 as usize) else {
-        return false;
-    };
-    let Some(service) = plan.services.get(row.service.0 as usize) else {
-        return false;
-    };
-    match inner_parts(row.tag, service.mtu, octets) {
-        Ok((front, back)) => came.shows(origin, row.service.0, front, back),
-        Err(_) => false,
-    }
-}
-
-// Whether a frame that leaves at a circuit entered before, at a circuit of the same service.
+// Whether a frame that leaves, where there is one, entered before.
 fn has_come_in(
     alloc: Global,
-    plan: &Plan,
     came: &Arrivals,
-    circuit: CircuitId,
-    origin: u64,
-    octets: &[u8],
+    frame: Option<FrameParts<'_>>,
 ) -> Result<bool, NoMemory>
-    ensures { (known : List Entered) → TellsArrivals came.now known → IfOk result (λ come. come ≡ has_one known (entered_at plan.now circuit origin octets.now)) }
+    ensures { (known : List Entered) → TellsArrivals came.now known → IfOk result (λ come. come ≡ has_one known (option_map parts_of frame.entry)) }
 {
-    if shows_come(plan, came, circuit, origin, octets) {
+    let Some(frame) = frame else {
+        return Ok(false);
+    };
+    if came.shows(frame) {
         return Ok(true);
     }
-    match came_at(alloc, plan, circuit, origin, octets) {
-        Ok(Some(left)) => Ok(came.has(&left)),
-        Ok(None) => Ok(false),
+    match joined(alloc, frame) {
+        Ok(frame) => Ok(came.has(&frame)),
         Err(NoMemory) => Err(NoMemory),
     }
 }
@@ -133,34 +82,14 @@ fn is_stray_entry(
             origin,
             ref bytes,
             ..
-        } => match has_come_in(alloc, plan, came, circuit, origin, bytes.as_slice()) {
-            Ok(come) => Ok(!come),
-            Err(NoMemory) => Err(NoMemory),
-        },
+        } => {
+            let frame = came_at(plan, circuit, origin, bytes.as_slice());
+            match has_come_in(alloc, came, frame) {
+                Ok(come) => Ok(!come),
+                Err(NoMemory) => Err(NoMemory),
+            }
+        }
         _ => Ok(false),
-    }
-}
-
-// Keeps a frame that entered.
-fn keep(
-    alloc: Global,
-    plan: &Plan,
-    came: &mut Arrivals,
-    circuit: CircuitId,
-    number: u64,
-    octets: &[u8],
-) -> Result<(), NoMemory>
-    ensures { OnOk result ((known : List Entered) → TellsArrivals came.old known → TellsArrivals came.new (with_one known (entered_at plan.now circuit number octets.now))) }
-{
-    let Some(row) = plan.circuits.get(circuit.0 as usize) else {
-        return Ok(());
-    };
-    let Some(service) = plan.services.get(row.service.0 as usize) else {
-        return Ok(());
-    };
-    match inner_parts(row.tag, service.mtu, octets) {
-        Ok((front, back)) => came.add(alloc, number, row.service.0, front, back),
-        Err(_) => Ok(()),
     }
 }
 
@@ -178,7 +107,10 @@ fn keep_entry(
             circuit,
             number,
             ref bytes,
-        } => keep(alloc, plan, came, circuit, number, bytes.as_slice()),
+        } => match came_at(plan, circuit, number, bytes.as_slice()) {
+            Some(frame) => came.add(alloc, frame),
+            None => Ok(()),
+        },
         _ => Ok(()),
     }
 }
@@ -251,43 +183,6 @@ fn is_crossing_entry(plan: &Plan, entry: &Entry) -> bool
     }
 }
 
-// The first line of a frame that left as none that had entered. Behind it none is sought.
-fn stray_line(
-    alloc: Global,
-    plan: &Plan,
-    came: &Arrivals,
-    line: Option<u64>,
-    entry: &Entry,
-    here: u64,
-) -> Result<Option<u64>, NoMemory>
-    ensures { (known : List Entered) → TellsArrivals came.now known → IfOk result (λ first. first ≡ first_line line (is_stray plan.now known entry.now) here) }
-{
-    match line {
-        Some(line) => Ok(Some(line)),
-        None => match is_stray_entry(alloc, plan, came, entry) {
-            Ok(true) => Ok(Some(here)),
-            Ok(false) => Ok(None),
-            Err(NoMemory) => Err(NoMemory),
-        },
-    }
-}
-
-// The first line of a packet that went from one mesh wire to another one.
-fn crossed_line(plan: &Plan, line: Option<u64>, entry: &Entry, here: u64) -> Option<u64>
-    ensures { result ≡ first_line line (is_crossing plan.now entry.now) here }
-{
-    match line {
-        Some(line) => Some(line),
-        None => {
-            if is_crossing_entry(plan, entry) {
-                Some(here)
-            } else {
-                None
-            }
-        }
-    }
-}
-
 impl PathAudit {
     /// What is known behind the line that names the format.
     pub fn new(alloc: Global) -> PathAudit
@@ -301,6 +196,42 @@ impl PathAudit {
         }
     }
 
+    // The first line of a frame that left as none that had entered. Behind it none is sought.
+    fn stray_line(
+        &self,
+        alloc: Global,
+        plan: &Plan,
+        entry: &Entry,
+        here: u64,
+    ) -> Result<Option<u64>, NoMemory>
+        ensures { (known : List Entered) → TellsArrivals self.now.came known → IfOk result (λ first. first ≡ first_line self.now.stray (is_stray plan.now known entry.now) here) }
+    {
+        match self.stray {
+            Some(line) => Ok(Some(line)),
+            None => match is_stray_entry(alloc, plan, &self.came, entry) {
+                Ok(true) => Ok(Some(here)),
+                Ok(false) => Ok(None),
+                Err(NoMemory) => Err(NoMemory),
+            },
+        }
+    }
+
+    // The first line of a packet that went from one mesh wire to another one.
+    fn crossed_line(&self, plan: &Plan, entry: &Entry, here: u64) -> Option<u64>
+        ensures { result ≡ first_line self.now.crossed (is_crossing plan.now entry.now) here }
+    {
+        match self.crossed {
+            Some(line) => Some(line),
+            None => {
+                if is_crossing_entry(plan, entry) {
+                    Some(here)
+                } else {
+                    None
+                }
+            }
+        }
+    }
+
     /// Judges an entry more.
     #[tactic(auto, unfolding(crate::specs::Judged::judges))]
     pub fn hear(&mut self, alloc: Global, plan: &Plan, entry: &Entry) -> Result<(), NoMemory>
@@ -309,10 +240,10 @@ impl PathAudit {
         ensures line { OnOk result (self.new.line ≡ self.old.line + 1) }
     {
         let here = self.line + 1;
-        let stray = stray_line(alloc, plan, &self.came, self.stray, entry, here)?;
+        let stray = self.stray_line(alloc, plan, entry, here)?;
         keep_entry(alloc, plan, &mut self.came, entry)?;
         self.stray = stray;
-        self.crossed = crossed_line(plan, self.crossed, entry, here);
+        self.crossed = self.crossed_line(plan, entry, here);
         self.line = here;
         Ok(())
     }
