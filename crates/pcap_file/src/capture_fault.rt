@@ -1,7 +1,6 @@
 //! Why octets are no capture.
 
 use crate::CaptureField;
-use net_values::NoMemory;
 use thiserror::Error;
 
 /// Why octets are no capture: their first fault, fields in order, where `at` counts octets from the first of the file;
@@ -26,15 +25,4 @@ pub enum CaptureFault {
     /// Memory was refused.
     #[error("out of memory")]
     NoMemory,
-}
-
-impl From<NoMemory> for CaptureFault {
-    ghost use Rattle.std.specs.Prelude.{◌≡◌};
-    ghost use Rattle.pcap_file.specs.declared.capture_fault.CaptureFault.TheVariants as fault;
-
-    ghost from_gives = { λ _ e. e ≡ fault.NoMemory };
-
-    fn from(_: NoMemory) -> CaptureFault {
-        CaptureFault::NoMemory
-    }
 }

@@ -1,5 +1,5 @@
 //! The frames of a capture.
-ghost use Rattle.std.specs.Prelude.{◌≡◌, ◌≤◌, ◌<◌, ◌+◌, ◌++◌, ◌^◌, ℕ, List, length, take, Some, Ok, Err, IfOk, IfErr};
+ghost use Rattle.std.specs.Prelude.{◌≡◌, ◌≤◌, ◌<◌, ◌+◌, ◌++◌, ◌∷◌, ◌^◌, [], ℕ, List, length, take, Some, Ok, Err, IfOk, IfErr, OnOk};
 ghost use Rattle.pcap_file.specs.{declared.capture_fault.CaptureFault.{CaptureFault}, Answers.{TellsCaptureFault, IsCaptureUnlessNoMemory}};
 ghost use Rattle.pcap_file.specs.{Fields.{first_field_fault, record_fields}, FirstFault.{IsHeaderFault, IsFirstFault, HasBrokenRecord}};
 ghost use Rattle.pcap_file.specs.Records.{HasHeader, IsCapture, AreRecords, IsPacketRecord};
@@ -8,7 +8,7 @@ use crate::endianness::Endianness;
 use crate::fields::{test_header, test_record};
 use crate::{CaptureFault, CaptureField};
 use byteorder::{BigEndian, ByteOrder};
-use net_values::{List as Items, Octets};
+use net_values::{List as Items, NoMemory, Octets};
 use std::alloc::Global;
 
 // The octets of a header.
@@ -54,6 +54,13 @@ fn first_frame(order: Endianness, octets: &[u8], base: u64) -> Result<&[u8], Cap
     Ok(frame)
 }
 
+// Adds a frame behind the others.
+fn push_frame(alloc: Global, frames: &mut Items<Octets>, frame: &[u8]) -> Result<(), NoMemory>
+    ensures { OnOk result (frames.new ≡ frames.old ++ frame.now ∷ []) }
+{
+    frames.push(Items::from_bytes(alloc, frame)?)
+}
+
 // The frames of the records that the octets behind a header are.
 #[tactic(auto, using(crate::proofs::RecordLemmas::records_up_to, crate::proofs::RecordLemmas::all_records, crate::proofs::RecordLemmas::broken_at))]
 fn read_records(
@@ -69,7 +76,10 @@ fn read_records(
     'reading: while at < octets.len() {
         let (_, rest) = octets.split_at(at);
         let frame = first_frame(order, rest, (HEADER + at) as u64)?;
-        frames.push(Items::from_bytes(alloc, frame)?)?;
+        match push_frame(alloc, &mut frames, frame) {
+            Ok(()) => {}
+            Err(NoMemory) => return Err(CaptureFault::NoMemory),
+        }
         at += HEAD + frame.len();
     }
     Ok(frames)
