@@ -14,6 +14,7 @@ mod parts;
 mod telling;
 
 use crate::connection::Connection;
+use crate::peer_work::PeerWork;
 use crate::{IndepStop, Wish};
 use net_base::{EdgeId, Link, NoMemory, Plan, WireId};
 use pw_tlvs::PwStatus;
@@ -64,7 +65,7 @@ impl IndepEdge {
         ensures changed { ChangesOnly peer.0 (with_connection peer.0 (Some fresh_connection) (independent_seen self.old)) (independent_seen self.new) }
     {
         match self.begin(alloc, peer) {
-            Ok(()) => self.tell_all(alloc, peer, link),
+            Ok(()) => self.tell_all(PeerWork { peer, alloc }, link),
             Err(NoMemory) => Err(IndepStop::NoMemory),
         }
     }
@@ -109,7 +110,8 @@ impl IndepEdge {
         let Some(mut receiver) = self.take_receiver(peer) else {
             return Ok(());
         };
-        let heard = self.hear_octets(&mut receiver, alloc, peer, bytes, link);
+        let work = PeerWork { peer, alloc };
+        let heard = self.hear_octets(&mut receiver, work, bytes, link);
         self.keep_receiver(peer, receiver, &heard);
         heard
     }

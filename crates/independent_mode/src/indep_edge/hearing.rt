@@ -10,6 +10,7 @@ ghost use Rattle.independent_model.specs.{State.{with_receiver, with_remote, wit
 ghost use Rattle.independent_model.specs.Work.{Comes, CallsGoOn};
 
 use crate::connection::PeerStream;
+use crate::peer_work::PeerWork;
 use crate::{IndepEdge, IndepStop};
 use ldp_grammar::Message;
 use net_base::{EdgeId, Link};
@@ -38,22 +39,21 @@ impl IndepEdge {
     #[tactic(auto, using(crate::proofs::ChangedLemmas::only_learned, crate::proofs::ChangedLemmas::only_same))]
     fn hear_status<L: Link>(
         &mut self,
-        alloc: Global,
-        peer: EdgeId,
+        work: PeerWork,
         heard: WireStatus,
         link: &mut L,
     ) -> Result<(), IndepStop>
         requires wire { heard.wire < length self.old.plan.wires }
-        requires within { peer.0 < length self.old.plan.edges }
-        ensures speaks { Speaks self.old self.new (L.calls link.old) (L.calls link.new) result (λ told. independent_hears_status self.old.plan told self.old.me.0 peer heard.wire heard.status (independent_seen self.old) (L.calls link.old)) }
-        ensures changed { ChangesOnly peer.0 (learns heard.wire heard.status (independent_seen self.old)) (independent_seen self.new) }
+        requires within { work.peer.0 < length self.old.plan.edges }
+        ensures speaks { Speaks self.old self.new (L.calls link.old) (L.calls link.new) result (λ told. independent_hears_status self.old.plan told self.old.me.0 work.peer heard.wire heard.status (independent_seen self.old) (L.calls link.old)) }
+        ensures changed { ChangesOnly work.peer.0 (learns heard.wire heard.status (independent_seen self.old)) (independent_seen self.new) }
     {
         let WireStatus { wire, status } = heard;
         let wish = self.wish(wire);
         self.set_remote(wire, Some(status));
         self.set_wish(wire, becomes(status, wish));
         if is_told(status, wish) {
-            self.tell(alloc, peer, wire, link)
+            self.tell(work, wire, link)
         } else {
             Ok(())
         }
@@ -63,14 +63,13 @@ impl IndepEdge {
     #[tactic(auto, using(crate::proofs::ChangedLemmas::only_same))]
     fn hear_notice<L: Link>(
         &mut self,
-        alloc: Global,
-        peer: EdgeId,
+        work: PeerWork,
         notice: Notice,
         link: &mut L,
     ) -> Result<(), IndepStop>
-        requires within { peer.0 < length self.old.plan.edges }
-        ensures speaks { Speaks self.old self.new (L.calls link.old) (L.calls link.new) result (λ told. hears_notice self.old.plan told self.old.me.0 peer notice.code notice.status notice.fec (independent_seen self.old) (L.calls link.old)) }
-        ensures changed { ChangesOnly peer.0 (learns_notice self.old.plan self.old.me.0 peer notice.code notice.status notice.fec (independent_seen self.old)) (independent_seen self.new) }
+        requires within { work.peer.0 < length self.old.plan.edges }
+        ensures speaks { Speaks self.old self.new (L.calls link.old) (L.calls link.new) result (λ told. hears_notice self.old.plan told self.old.me.0 work.peer notice.code notice.status notice.fec (independent_seen self.old) (L.calls link.old)) }
+        ensures changed { ChangesOnly work.peer.0 (learns_notice self.old.plan self.old.me.0 work.peer notice.code notice.status notice.fec (independent_seen self.old)) (independent_seen self.new) }
     {
         let Notice { code, status, fec } = notice;
         let Some(status) = status else {
@@ -82,8 +81,8 @@ impl IndepEdge {
         if code != PW_STATUS_CODE {
             return Ok(());
         }
-        match self.named(peer, fec.pw_id) {
-            Some(wire) => self.hear_status(alloc, peer, WireStatus { wire, status }, link),
+        match self.named(work.peer, fec.pw_id) {
+            Some(wire) => self.hear_status(work, WireStatus { wire, status }, link),
             None => Ok(()),
         }
     }
@@ -92,14 +91,13 @@ impl IndepEdge {
     #[tactic(auto, using(crate::proofs::ChangedLemmas::only_same))]
     fn hear_message<L: Link>(
         &mut self,
-        alloc: Global,
-        peer: EdgeId,
+        work: PeerWork,
         message: &Message,
         link: &mut L,
     ) -> Result<(), IndepStop>
-        requires within { peer.0 < length self.old.plan.edges }
-        ensures speaks { Speaks self.old self.new (L.calls link.old) (L.calls link.new) result (λ told. independent_hears_message self.old.plan told self.old.me.0 peer message.now (independent_seen self.old) (L.calls link.old)) }
-        ensures changed { ChangesOnly peer.0 (learns_message self.old.plan self.old.me.0 peer message.now (independent_seen self.old)) (independent_seen self.new) }
+        requires within { work.peer.0 < length self.old.plan.edges }
+        ensures speaks { Speaks self.old self.new (L.calls link.old) (L.calls link.new) result (λ told. independent_hears_message self.old.plan told self.old.me.0 work.peer message.now (independent_seen self.old) (L.calls link.old)) }
+        ensures changed { ChangesOnly work.peer.0 (learns_message self.old.plan self.old.me.0 work.peer message.now (independent_seen self.old)) (independent_seen self.new) }
     {
         match message {
             Message::Notification {
@@ -113,7 +111,7 @@ impl IndepEdge {
                     status: *pw_status,
                     fec: *fec,
                 };
-                self.hear_notice(alloc, peer, notice, link)
+                self.hear_notice(work, notice, link)
             }
             _ => Ok(()),
         }
@@ -123,18 +121,17 @@ impl IndepEdge {
     #[tactic(auto, using(crate::proofs::HearLemmas::messages_more, crate::proofs::HearLemmas::messages_end, crate::proofs::TellLemmas::same_calls, crate::proofs::ChangedLemmas::only_same, crate::proofs::ChangedLemmas::one_more_heard, crate::proofs::ChangedLemmas::front_heard, crate::proofs::ChangedLemmas::all_heard_of))]
     fn hear_messages<L: Link>(
         &mut self,
-        alloc: Global,
-        peer: EdgeId,
+        work: PeerWork,
         messages: &[Message],
         link: &mut L,
     ) -> Result<(), IndepStop>
-        requires within { peer.0 < length self.old.plan.edges }
-        ensures speaks { Speaks self.old self.new (L.calls link.old) (L.calls link.new) result (λ told. independent_hears_messages self.old.plan told self.old.me.0 peer messages.now (independent_seen self.old) (L.calls link.old)) }
-        ensures all { OnOk result (ChangesOnly peer.0 (learns_messages self.old.plan self.old.me.0 peer messages.now (independent_seen self.old)) (independent_seen self.new)) }
-        ensures front { HearsFront self.old.plan self.old.me.0 peer messages.now (independent_seen self.old) (independent_seen self.new) }
+        requires within { work.peer.0 < length self.old.plan.edges }
+        ensures speaks { Speaks self.old self.new (L.calls link.old) (L.calls link.new) result (λ told. independent_hears_messages self.old.plan told self.old.me.0 work.peer messages.now (independent_seen self.old) (L.calls link.old)) }
+        ensures all { OnOk result (ChangesOnly work.peer.0 (learns_messages self.old.plan self.old.me.0 work.peer messages.now (independent_seen self.old)) (independent_seen self.new)) }
+        ensures front { HearsFront self.old.plan self.old.me.0 work.peer messages.now (independent_seen self.old) (independent_seen self.new) }
     {
         for place in 0..messages.len() {
-            match self.hear_message(alloc, peer, &messages[place], link) {
+            match self.hear_message(work, &messages[place], link) {
                 Ok(()) => {}
                 Err(stop) => return Err(stop),
             }
@@ -147,23 +144,22 @@ impl IndepEdge {
     fn hear_held<L: Link>(
         &mut self,
         receiver: &mut PeerStream,
-        alloc: Global,
-        peer: EdgeId,
+        work: PeerWork,
         link: &mut L,
     ) -> Result<(), IndepStop>
-        requires within { peer.0 < length self.old.plan.edges }
+        requires within { work.peer.0 < length self.old.plan.edges }
         ensures keeps { KeepsIndependent self.old self.new }
         ensures goes { CallsGoOn (L.calls link.old) (L.calls link.new) }
         ensures waits { OnOk result (IsReceiverWaiting receiver.new) }
-        ensures all { OnOk result (HearsAll self.old.plan self.old.me.0 peer receiver.old.held receiver.new.held (independent_seen self.old) (independent_seen self.new)) }
-        ensures some { HearsSome self.old.plan self.old.me.0 peer receiver.old.held (independent_seen self.old) (independent_seen self.new) }
+        ensures all { OnOk result (HearsAll self.old.plan self.old.me.0 work.peer receiver.old.held receiver.new.held (independent_seen self.old) (independent_seen self.new)) }
+        ensures some { HearsSome self.old.plan self.old.me.0 work.peer receiver.old.held (independent_seen self.old) (independent_seen self.new) }
         ensures step { (told : Answers) (more : List ℕ) → Agrees told (L.calls link.new) → AreOctets more
-            → HearsTo self.old.plan told self.old.me.0 peer result receiver.new more (independent_seen self.new) (L.calls link.new) (hears_at self.old.plan told self.old.me.0 peer (receiver_of receiver.old) more (independent_seen self.old) (L.calls link.old)) }
+            → HearsTo self.old.plan told self.old.me.0 work.peer result receiver.new more (independent_seen self.new) (L.calls link.new) (hears_at self.old.plan told self.old.me.0 work.peer (receiver_of receiver.old) more (independent_seen self.old) (L.calls link.old)) }
     {
         'pdus: loop {
-            match receiver.next(alloc) {
+            match receiver.next(work.alloc) {
                 Ok(Some(pdu)) => {
-                    match self.hear_messages(alloc, peer, pdu.messages.as_slice(), link) {
+                    match self.hear_messages(work, pdu.messages.as_slice(), link) {
                         Ok(()) => {}
                         Err(stop) => return Err(stop),
                     }
@@ -179,21 +175,20 @@ impl IndepEdge {
     pub(crate) fn hear_octets<L: Link>(
         &mut self,
         receiver: &mut PeerStream,
-        alloc: Global,
-        peer: EdgeId,
+        work: PeerWork,
         octets: &[u8],
         link: &mut L,
     ) -> Result<(), IndepStop>
-        requires within { peer.0 < length self.old.plan.edges }
+        requires within { work.peer.0 < length self.old.plan.edges }
         ensures keeps { KeepsIndependent self.old self.new }
         ensures goes { CallsGoOn (L.calls link.old) (L.calls link.new) }
         ensures step { (told : Answers) → Agrees told (L.calls link.new)
-            → Comes result (kept_after peer.0 receiver.new result (independent_seen self.new)) (L.calls link.new) (hears_at self.old.plan told self.old.me.0 peer (receiver_of receiver.old) octets.now (independent_seen self.old) (L.calls link.old)) }
-        ensures some { HearsSome self.old.plan self.old.me.0 peer (receiver.old.held ++ octets.now) (independent_seen self.old) (independent_seen self.new) }
+            → Comes result (kept_after work.peer.0 receiver.new result (independent_seen self.new)) (L.calls link.new) (hears_at self.old.plan told self.old.me.0 work.peer (receiver_of receiver.old) octets.now (independent_seen self.old) (L.calls link.old)) }
+        ensures some { HearsSome self.old.plan self.old.me.0 work.peer (receiver.old.held ++ octets.now) (independent_seen self.old) (independent_seen self.new) }
     {
         let mut at = 0;
         'hearing: loop {
-            match self.hear_held(receiver, alloc, peer, link) {
+            match self.hear_held(receiver, work, link) {
                 Ok(()) => {}
                 Err(stop) => return Err(stop),
             }

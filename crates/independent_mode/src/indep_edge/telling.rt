@@ -7,6 +7,7 @@ ghost use Rattle.independent_model.specs.Work.{CallsGoOn, IsPutOnLink, NeverRefu
 ghost use Rattle.independent_mode.specs.{Changed.{ChangesOnly}, Lists.{KeepsIndependent, independent_seen}, Speaking.{Speaks}};
 
 use crate::notification::{Sender, notification_octets};
+use crate::peer_work::PeerWork;
 use crate::{IndepEdge, IndepStop};
 use net_base::{EdgeId, Link, LinkStop, NoMemory, Octets};
 use std::alloc::Global;
@@ -42,26 +43,25 @@ impl IndepEdge {
     #[tactic(auto, using(crate::proofs::TellLemmas::told_none, crate::proofs::TellLemmas::told_ok, crate::proofs::TellLemmas::told_err, crate::proofs::TellLemmas::same_calls, crate::proofs::ChangedLemmas::only_same))]
     pub(crate) fn tell<L: Link>(
         &mut self,
-        alloc: Global,
-        peer: EdgeId,
+        work: PeerWork,
         wire: usize,
         link: &mut L,
     ) -> Result<(), IndepStop>
-        requires within { peer.0 < length self.old.plan.edges }
+        requires within { work.peer.0 < length self.old.plan.edges }
         requires wire { wire < length self.old.plan.wires }
-        ensures speaks { Speaks self.old self.new (L.calls link.old) (L.calls link.new) result (λ told. tells self.old.plan told self.old.me.0 peer wire (independent_seen self.old) (L.calls link.old)) }
-        ensures changed { ChangesOnly peer.0 (independent_seen self.old) (independent_seen self.new) }
+        ensures speaks { Speaks self.old self.new (L.calls link.old) (L.calls link.new) result (λ told. tells self.old.plan told self.old.me.0 work.peer wire (independent_seen self.old) (L.calls link.old)) }
+        ensures changed { ChangesOnly work.peer.0 (independent_seen self.old) (independent_seen self.new) }
     {
-        let Some(id) = self.next_id(peer) else {
+        let Some(id) = self.next_id(work.peer) else {
             return Ok(());
         };
-        let octets = match self.octets_of(alloc, wire, id) {
+        let octets = match self.octets_of(work.alloc, wire, id) {
             Ok(octets) => octets,
             Err(NoMemory) => return Err(IndepStop::NoMemory),
         };
-        match put_bytes(peer, octets.as_slice(), link) {
+        match put_bytes(work.peer, octets.as_slice(), link) {
             Ok(()) => {
-                self.count(peer);
+                self.count(work.peer);
                 Ok(())
             }
             Err(stop) => Err(stop),
@@ -80,7 +80,7 @@ impl IndepEdge {
         ensures changed { (peer : EdgeId) → other_end self.old.plan self.old.me.0 wire ≡ Some peer → ChangesOnly peer.0 (independent_seen self.old) (independent_seen self.new) }
     {
         match self.other_end(wire) {
-            Some(peer) => self.tell(alloc, peer, wire, link),
+            Some(peer) => self.tell(PeerWork { peer, alloc }, wire, link),
             None => Ok(()),
         }
     }
@@ -89,18 +89,17 @@ impl IndepEdge {
     #[tactic(auto, using(crate::proofs::TellLemmas::from_more, crate::proofs::TellLemmas::from_end, crate::proofs::TellLemmas::same_calls, crate::proofs::ChangedLemmas::only_same, crate::proofs::ChangedLemmas::only_both))]
     pub(crate) fn tell_all<L: Link>(
         &mut self,
-        alloc: Global,
-        peer: EdgeId,
+        work: PeerWork,
         link: &mut L,
     ) -> Result<(), IndepStop>
-        requires { peer.0 < length self.old.plan.edges }
-        ensures speaks { Speaks self.old self.new (L.calls link.old) (L.calls link.new) result (λ told. tells_from self.old.plan told self.old.me.0 peer 0 (length self.old.plan.wires) (independent_seen self.old) (L.calls link.old)) }
-        ensures changed { ChangesOnly peer.0 (independent_seen self.old) (independent_seen self.new) }
+        requires { work.peer.0 < length self.old.plan.edges }
+        ensures speaks { Speaks self.old self.new (L.calls link.old) (L.calls link.new) result (λ told. tells_from self.old.plan told self.old.me.0 work.peer 0 (length self.old.plan.wires) (independent_seen self.old) (L.calls link.old)) }
+        ensures changed { ChangesOnly work.peer.0 (independent_seen self.old) (independent_seen self.new) }
     {
         let count = self.plan.wires.len();
         for wire in 0..count {
-            if self.is_with(wire, peer) {
-                match self.tell(alloc, peer, wire, link) {
+            if self.is_with(wire, work.peer) {
+                match self.tell(work, wire, link) {
                     Ok(()) => {}
                     Err(stop) => return Err(stop),
                 }

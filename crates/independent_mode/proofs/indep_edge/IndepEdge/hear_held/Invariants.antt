@@ -13,9 +13,9 @@ invariant-pdus g l = record {
   keeps : KeepsIndependent l.fn.self l.self;
   goes : CallsGoOn (g.L.Link.calls l.fn.link) (g.L.Link.calls l.link);
   step : (told : Answers) (more : List ℕ) → Agrees told (g.L.Link.calls l.link) → AreOctets more
-      → hears_at l.fn.self.plan told l.fn.self.me.0 l.peer (receiver_of l.fn.receiver) more (independent_seen l.fn.self) (g.L.Link.calls l.fn.link)
-      ≡ hears_at l.fn.self.plan told l.fn.self.me.0 l.peer (receiver_of l.receiver) more (independent_seen l.self) (g.L.Link.calls l.link);
-  heard : HearsAll l.fn.self.plan l.fn.self.me.0 l.peer l.fn.receiver.held l.receiver.held (independent_seen l.fn.self) (independent_seen l.self);
+      → hears_at l.fn.self.plan told l.fn.self.me.0 l.work.peer (receiver_of l.fn.receiver) more (independent_seen l.fn.self) (g.L.Link.calls l.fn.link)
+      ≡ hears_at l.fn.self.plan told l.fn.self.me.0 l.work.peer (receiver_of l.receiver) more (independent_seen l.self) (g.L.Link.calls l.link);
+  heard : HearsAll l.fn.self.plan l.fn.self.me.0 l.work.peer l.fn.receiver.held l.receiver.held (independent_seen l.fn.self) (independent_seen l.self);
 }
 
 abbrev pub decreases-pdus : goal.decreases-pdus

@@ -19,12 +19,12 @@ returns-in-Err-clause-front g c =
     let message : Message = c.index-messages-place.result in
     let within : c.loop-place.place < length c.args.messages.now = search rules in
     let at : message ≡ slice_index_or c.args.messages.now c.loop-place.place message = search rules in
-    front_heard plan me c.args.peer c.args.messages.now (c.loop-place.place + 1) (independent_seen c.args.self.now) (independent_seen c.hear_message.new.self)
-    (one_more_heard plan me c.args.peer c.args.messages.now c.loop-place.place message (independent_seen c.args.self.now) (independent_seen c.loop-place.self)
+    front_heard plan me c.args.work.peer c.args.messages.now (c.loop-place.place + 1) (independent_seen c.args.self.now) (independent_seen c.hear_message.new.self)
+    (one_more_heard plan me c.args.work.peer c.args.messages.now c.loop-place.place message (independent_seen c.args.self.now) (independent_seen c.loop-place.self)
     (independent_seen c.hear_message.new.self) within at c.loop-place.invariant.changed
-    (subst (λ (p : Plan). ChangesOnly c.args.peer.0 (learns_message p me c.args.peer message (independent_seen c.loop-place.self)) (independent_seen c.hear_message.new.self))
+    (subst (λ (p : Plan). ChangesOnly c.args.work.peer.0 (learns_message p me c.args.work.peer message (independent_seen c.loop-place.self)) (independent_seen c.hear_message.new.self))
     c.loop-place.invariant.keeps.plan
-    (subst (λ (m : EdgeId). ChangesOnly c.args.peer.0 (learns_message c.loop-place.self.plan m.0 c.args.peer message (independent_seen c.loop-place.self)) (independent_seen c.hear_message.new.self))
+    (subst (λ (m : EdgeId). ChangesOnly c.args.work.peer.0 (learns_message c.loop-place.self.plan m.0 c.args.work.peer message (independent_seen c.loop-place.self)) (independent_seen c.hear_message.new.self))
     c.loop-place.invariant.keeps.me c.hear_message.ensures.changed)))
 
 pub loop-place-preserved : goal.loop-place-preserved
@@ -41,19 +41,19 @@ loop-place-preserved g c =
       goes = goes_both (g.L.Link.calls c.args.link.now) calls after c.loop-place.invariant.goes c.hear_message.ensures.speaks.goes;
       step = λ told agrees.
           c.loop-place.invariant.step told (agrees_before told calls after c.hear_message.ensures.speaks.goes agrees)
-          ∙ goes_then (independent_hears_message plan told me c.args.peer message (independent_seen c.loop-place.self) calls)
-          (independent_hears_messages plan told me c.args.peer (drop c.loop-place.place c.args.messages.now) (independent_seen c.loop-place.self) calls)
+          ∙ goes_then (independent_hears_message plan told me c.args.work.peer message (independent_seen c.loop-place.self) calls)
+          (independent_hears_messages plan told me c.args.work.peer (drop c.loop-place.place c.args.messages.now) (independent_seen c.loop-place.self) calls)
           (independent_seen c.hear_message.new.self) after
-          (λ e k. independent_hears_messages plan told me c.args.peer (drop (c.loop-place.place + 1) c.args.messages.now) e k)
-          (messages_more plan told me c.args.peer c.args.messages.now c.loop-place.place message (independent_seen c.loop-place.self) calls within at)
-          (subst (λ (p : Plan). independent_hears_message p told me c.args.peer message (independent_seen c.loop-place.self) calls ≡ Goes (independent_seen c.hear_message.new.self) after)
+          (λ e k. independent_hears_messages plan told me c.args.work.peer (drop (c.loop-place.place + 1) c.args.messages.now) e k)
+          (messages_more plan told me c.args.work.peer c.args.messages.now c.loop-place.place message (independent_seen c.loop-place.self) calls within at)
+          (subst (λ (p : Plan). independent_hears_message p told me c.args.work.peer message (independent_seen c.loop-place.self) calls ≡ Goes (independent_seen c.hear_message.new.self) after)
           c.loop-place.invariant.keeps.plan
-          (subst (λ (m : EdgeId). independent_hears_message c.loop-place.self.plan told m.0 c.args.peer message (independent_seen c.loop-place.self) calls
+          (subst (λ (m : EdgeId). independent_hears_message c.loop-place.self.plan told m.0 c.args.work.peer message (independent_seen c.loop-place.self) calls
           ≡ Goes (independent_seen c.hear_message.new.self) after) c.loop-place.invariant.keeps.me (c.in-Ok.ensures.speaks.step told agrees)));
-      changed = one_more_heard plan me c.args.peer c.args.messages.now c.loop-place.place message (independent_seen c.args.self.now) (independent_seen c.loop-place.self)
+      changed = one_more_heard plan me c.args.work.peer c.args.messages.now c.loop-place.place message (independent_seen c.args.self.now) (independent_seen c.loop-place.self)
           (independent_seen c.hear_message.new.self) within at c.loop-place.invariant.changed
-          (subst (λ (p : Plan). ChangesOnly c.args.peer.0 (learns_message p me c.args.peer message (independent_seen c.loop-place.self)) (independent_seen c.hear_message.new.self))
+          (subst (λ (p : Plan). ChangesOnly c.args.work.peer.0 (learns_message p me c.args.work.peer message (independent_seen c.loop-place.self)) (independent_seen c.hear_message.new.self))
           c.loop-place.invariant.keeps.plan
-          (subst (λ (m : EdgeId). ChangesOnly c.args.peer.0 (learns_message c.loop-place.self.plan m.0 c.args.peer message (independent_seen c.loop-place.self))
+          (subst (λ (m : EdgeId). ChangesOnly c.args.work.peer.0 (learns_message c.loop-place.self.plan m.0 c.args.work.peer message (independent_seen c.loop-place.self))
           (independent_seen c.hear_message.new.self)) c.loop-place.invariant.keeps.me c.hear_message.ensures.changed));
     }

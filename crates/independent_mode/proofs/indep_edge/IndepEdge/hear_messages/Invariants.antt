@@ -11,7 +11,7 @@ invariant-loop-place g l = record {
   keeps : KeepsIndependent l.fn.self l.self;
   goes : CallsGoOn (g.L.Link.calls l.fn.link) (g.L.Link.calls l.link);
   step : (told : Answers) → Agrees told (g.L.Link.calls l.link)
-      → independent_hears_messages l.fn.self.plan told l.fn.self.me.0 l.peer l.messages (independent_seen l.fn.self) (g.L.Link.calls l.fn.link)
-      ≡ independent_hears_messages l.fn.self.plan told l.fn.self.me.0 l.peer (drop l.place l.messages) (independent_seen l.self) (g.L.Link.calls l.link);
-  changed : ChangesOnly l.peer.0 (learns_messages l.fn.self.plan l.fn.self.me.0 l.peer (take l.place l.messages) (independent_seen l.fn.self)) (independent_seen l.self);
+      → independent_hears_messages l.fn.self.plan told l.fn.self.me.0 l.work.peer l.messages (independent_seen l.fn.self) (g.L.Link.calls l.fn.link)
+      ≡ independent_hears_messages l.fn.self.plan told l.fn.self.me.0 l.work.peer (drop l.place l.messages) (independent_seen l.self) (g.L.Link.calls l.link);
+  changed : ChangesOnly l.work.peer.0 (learns_messages l.fn.self.plan l.fn.self.me.0 l.work.peer (take l.place l.messages) (independent_seen l.fn.self)) (independent_seen l.self);
 }

@@ -25,23 +25,23 @@ hearing-preserved g c =
       keeps = keeps_both c.args.self.now c.hearing.self c.hear_held.new.self c.hearing.invariant.keeps c.hear_held.ensures.keeps;
       goes = goes_both (g.L.Link.calls c.args.link.now) calls after c.hearing.invariant.goes c.hear_held.ensures.goes;
       within = c.feed_from-at.ensures.within;
-      heard = all_fed plan me c.args.peer c.args.receiver.now.held c.args.octets.now c.hearing.at c.feed_from-at.result c.hear_held.new.receiver c.feed_from-at.new.self
+      heard = all_fed plan me c.args.work.peer c.args.receiver.now.held c.args.octets.now c.hearing.at c.feed_from-at.result c.hear_held.new.receiver c.feed_from-at.new.self
           (independent_seen c.args.self.now) (independent_seen c.hear_held.new.self) (octets_take c.feed_from-at.result left (octets_drop c.hearing.at c.args.octets.now octets)) c.feed_from-at.ensures.held
-          (all_both plan me c.args.peer (c.args.receiver.now.held ++ take c.hearing.at c.args.octets.now) c.hearing.receiver.held c.hear_held.new.receiver.held (independent_seen c.args.self.now)
+          (all_both plan me c.args.work.peer (c.args.receiver.now.held ++ take c.hearing.at c.args.octets.now) c.hearing.receiver.held c.hear_held.new.receiver.held (independent_seen c.args.self.now)
           (independent_seen c.hearing.self) (independent_seen c.hear_held.new.self) c.hearing.invariant.heard
-          (subst (λ (p : Plan). HearsAll p me c.args.peer c.hearing.receiver.held c.hear_held.new.receiver.held (independent_seen c.hearing.self) (independent_seen c.hear_held.new.self))
+          (subst (λ (p : Plan). HearsAll p me c.args.work.peer c.hearing.receiver.held c.hear_held.new.receiver.held (independent_seen c.hearing.self) (independent_seen c.hear_held.new.self))
           c.hearing.invariant.keeps.plan
-          (subst (λ (m : EdgeId). HearsAll c.hearing.self.plan m.0 c.args.peer c.hearing.receiver.held c.hear_held.new.receiver.held (independent_seen c.hearing.self)
+          (subst (λ (m : EdgeId). HearsAll c.hearing.self.plan m.0 c.args.work.peer c.hearing.receiver.held c.hear_held.new.receiver.held (independent_seen c.hearing.self)
           (independent_seen c.hear_held.new.self)) c.hearing.invariant.keeps.me c.in-Ok.ensures.all)));
       step = λ told agrees.
           c.hearing.invariant.step told (agrees_before told calls after c.hear_held.ensures.goes agrees)
-          ∙ (subst (λ (p : Plan). hears_at p told me c.args.peer (receiver_of c.hearing.receiver) left (independent_seen c.hearing.self) calls
-          ≡ hears_at p told me c.args.peer (receiver_of c.hear_held.new.receiver) left (independent_seen c.hear_held.new.self) after) c.hearing.invariant.keeps.plan
-          (subst (λ (m : EdgeId). hears_at c.hearing.self.plan told m.0 c.args.peer (receiver_of c.hearing.receiver) left (independent_seen c.hearing.self) calls
-          ≡ hears_at c.hearing.self.plan told m.0 c.args.peer (receiver_of c.hear_held.new.receiver) left (independent_seen c.hear_held.new.self) after) c.hearing.invariant.keeps.me
-          (on_ok c.hearing.self.plan told c.hearing.self.me.0 c.args.peer c.hear_held.result c.in-Ok.field-0 c.hear_held.new.receiver left
+          ∙ (subst (λ (p : Plan). hears_at p told me c.args.work.peer (receiver_of c.hearing.receiver) left (independent_seen c.hearing.self) calls
+          ≡ hears_at p told me c.args.work.peer (receiver_of c.hear_held.new.receiver) left (independent_seen c.hear_held.new.self) after) c.hearing.invariant.keeps.plan
+          (subst (λ (m : EdgeId). hears_at c.hearing.self.plan told m.0 c.args.work.peer (receiver_of c.hearing.receiver) left (independent_seen c.hearing.self) calls
+          ≡ hears_at c.hearing.self.plan told m.0 c.args.work.peer (receiver_of c.hear_held.new.receiver) left (independent_seen c.hear_held.new.self) after) c.hearing.invariant.keeps.me
+          (on_ok c.hearing.self.plan told c.hearing.self.me.0 c.args.work.peer c.hear_held.result c.in-Ok.field-0 c.hear_held.new.receiver left
           (independent_seen c.hear_held.new.self) after _ c.in-Ok.is (c.hear_held.ensures.step told left agrees (octets_drop c.hearing.at c.args.octets.now octets))))
-          ∙ fed_at plan told me c.args.peer c.hear_held.new.receiver c.feed_from-at.new.self c.args.octets.now c.hearing.at c.feed_from-at.result
+          ∙ fed_at plan told me c.args.work.peer c.hear_held.new.receiver c.feed_from-at.new.self c.args.octets.now c.hearing.at c.feed_from-at.result
           (independent_seen c.hear_held.new.self) after c.in-Ok.ensures.waits c.feed_from-at.ensures.held);
     }
 
@@ -50,12 +50,12 @@ returns-in-Err-clause-some g c =
     let octets : AreOctets c.args.octets.now = λ i. omega (arith, c.type_inv.octets i) in
     let plan = c.args.self.now.plan in
     let me = c.args.self.now.me.0 in
-    some_fed plan me c.args.peer c.args.receiver.now.held c.args.octets.now c.hearing.at (independent_seen c.args.self.now) (independent_seen c.hear_held.new.self)
+    some_fed plan me c.args.work.peer c.args.receiver.now.held c.args.octets.now c.hearing.at (independent_seen c.args.self.now) (independent_seen c.hear_held.new.self)
     (octets_drop c.hearing.at c.args.octets.now octets)
-    (some_both plan me c.args.peer (c.args.receiver.now.held ++ take c.hearing.at c.args.octets.now) c.hearing.receiver.held (independent_seen c.args.self.now) (independent_seen c.hearing.self)
+    (some_both plan me c.args.work.peer (c.args.receiver.now.held ++ take c.hearing.at c.args.octets.now) c.hearing.receiver.held (independent_seen c.args.self.now) (independent_seen c.hearing.self)
     (independent_seen c.hear_held.new.self) c.hearing.invariant.heard
-    (subst (λ (p : Plan). HearsSome p me c.args.peer c.hearing.receiver.held (independent_seen c.hearing.self) (independent_seen c.hear_held.new.self)) c.hearing.invariant.keeps.plan
-    (subst (λ (m : EdgeId). HearsSome c.hearing.self.plan m.0 c.args.peer c.hearing.receiver.held (independent_seen c.hearing.self) (independent_seen c.hear_held.new.self))
+    (subst (λ (p : Plan). HearsSome p me c.args.work.peer c.hearing.receiver.held (independent_seen c.hearing.self) (independent_seen c.hear_held.new.self)) c.hearing.invariant.keeps.plan
+    (subst (λ (m : EdgeId). HearsSome c.hearing.self.plan m.0 c.args.work.peer c.hearing.receiver.held (independent_seen c.hearing.self) (independent_seen c.hear_held.new.self))
     c.hearing.invariant.keeps.me c.hear_held.ensures.some)))
 
 pub returns-then-at-octets-clause-some : goal.returns-then-at-octets-clause-some
@@ -63,10 +63,10 @@ returns-then-at-octets-clause-some g c =
     let octets : AreOctets c.args.octets.now = λ i. omega (arith, c.type_inv.octets i) in
     let plan = c.args.self.now.plan in
     let me = c.args.self.now.me.0 in
-    some_fed plan me c.args.peer c.args.receiver.now.held c.args.octets.now c.hearing.at (independent_seen c.args.self.now) (independent_seen c.hear_held.new.self)
+    some_fed plan me c.args.work.peer c.args.receiver.now.held c.args.octets.now c.hearing.at (independent_seen c.args.self.now) (independent_seen c.hear_held.new.self)
     (octets_drop c.hearing.at c.args.octets.now octets)
-    (some_both plan me c.args.peer (c.args.receiver.now.held ++ take c.hearing.at c.args.octets.now) c.hearing.receiver.held (independent_seen c.args.self.now) (independent_seen c.hearing.self)
+    (some_both plan me c.args.work.peer (c.args.receiver.now.held ++ take c.hearing.at c.args.octets.now) c.hearing.receiver.held (independent_seen c.args.self.now) (independent_seen c.hearing.self)
     (independent_seen c.hear_held.new.self) c.hearing.invariant.heard
-    (subst (λ (p : Plan). HearsSome p me c.args.peer c.hearing.receiver.held (independent_seen c.hearing.self) (independent_seen c.hear_held.new.self)) c.hearing.invariant.keeps.plan
-    (subst (λ (m : EdgeId). HearsSome c.hearing.self.plan m.0 c.args.peer c.hearing.receiver.held (independent_seen c.hearing.self) (independent_seen c.hear_held.new.self))
+    (subst (λ (p : Plan). HearsSome p me c.args.work.peer c.hearing.receiver.held (independent_seen c.hearing.self) (independent_seen c.hear_held.new.self)) c.hearing.invariant.keeps.plan
+    (subst (λ (m : EdgeId). HearsSome c.hearing.self.plan m.0 c.args.work.peer c.hearing.receiver.held (independent_seen c.hearing.self) (independent_seen c.hear_held.new.self))
     c.hearing.invariant.keeps.me c.hear_held.ensures.some)))

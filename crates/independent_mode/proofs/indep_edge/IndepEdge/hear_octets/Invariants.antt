@@ -13,9 +13,9 @@ invariant-hearing g l = record {
   goes : CallsGoOn (g.L.Link.calls l.fn.link) (g.L.Link.calls l.link);
   within : l.at ≤ length l.octets;
   step : (told : Answers) → Agrees told (g.L.Link.calls l.link)
-      → hears_at l.fn.self.plan told l.fn.self.me.0 l.peer (receiver_of l.fn.receiver) l.octets (independent_seen l.fn.self) (g.L.Link.calls l.fn.link)
-      ≡ hears_at l.fn.self.plan told l.fn.self.me.0 l.peer (receiver_of l.receiver) (drop l.at l.octets) (independent_seen l.self) (g.L.Link.calls l.link);
-  heard : HearsAll l.fn.self.plan l.fn.self.me.0 l.peer (l.fn.receiver.held ++ take l.at l.octets) l.receiver.held (independent_seen l.fn.self) (independent_seen l.self);
+      → hears_at l.fn.self.plan told l.fn.self.me.0 l.work.peer (receiver_of l.fn.receiver) l.octets (independent_seen l.fn.self) (g.L.Link.calls l.fn.link)
+      ≡ hears_at l.fn.self.plan told l.fn.self.me.0 l.work.peer (receiver_of l.receiver) (drop l.at l.octets) (independent_seen l.self) (g.L.Link.calls l.link);
+  heard : HearsAll l.fn.self.plan l.fn.self.me.0 l.work.peer (l.fn.receiver.held ++ take l.at l.octets) l.receiver.held (independent_seen l.fn.self) (independent_seen l.self);
 }
 
 abbrev pub decreases-hearing : goal.decreases-hearing

@@ -11,7 +11,7 @@ invariant-loop-wire g l = record {
   keeps : KeepsIndependent l.fn.self l.self;
   goes : CallsGoOn (g.L.Link.calls l.fn.link) (g.L.Link.calls l.link);
   step : (told : Answers) → Agrees told (g.L.Link.calls l.link)
-      → tells_from l.fn.self.plan told l.fn.self.me.0 l.peer 0 (length l.fn.self.plan.wires) (independent_seen l.fn.self) (g.L.Link.calls l.fn.link)
-      ≡ tells_from l.fn.self.plan told l.fn.self.me.0 l.peer l.wire (length l.fn.self.plan.wires - l.wire) (independent_seen l.self) (g.L.Link.calls l.link);
-  changed : ChangesOnly l.peer.0 (independent_seen l.fn.self) (independent_seen l.self);
+      → tells_from l.fn.self.plan told l.fn.self.me.0 l.work.peer 0 (length l.fn.self.plan.wires) (independent_seen l.fn.self) (g.L.Link.calls l.fn.link)
+      ≡ tells_from l.fn.self.plan told l.fn.self.me.0 l.work.peer l.wire (length l.fn.self.plan.wires - l.wire) (independent_seen l.self) (g.L.Link.calls l.link);
+  changed : ChangesOnly l.work.peer.0 (independent_seen l.fn.self) (independent_seen l.self);
 }
