@@ -4,7 +4,6 @@ mod bridges;
 mod dialogue;
 mod edge_ends;
 mod pings;
-mod plans;
 mod proposals;
 mod pseudowires;
 mod sessions;

@@ -11,3 +11,5 @@ mod independent;
 mod network;
 #[cfg(test)]
 mod octets;
+#[cfg(test)]
+mod scenarios;

@@ -7,7 +7,6 @@ mod largest;
 mod lent_maps;
 mod limit;
 mod paths;
-mod plans;
 mod pseudowires;
 mod services;
 mod sessions;

@@ -12,8 +12,8 @@ fn nibble(digit: u8) -> Option<u8> {
     }
 }
 
-/// Adds the octets of pairs of hexadecimal digits at the end; what is no digit is passed over.
-pub fn push_octets(rt: &impl Abort, octets: &mut Vec<u8>, text: &str) {
+// Adds the octets of pairs of hexadecimal digits at the end.
+fn push_digits(rt: &impl Abort, octets: &mut Vec<u8>, text: &str) {
     let mut high = None;
     for digit in text.as_bytes() {
         if let Some(value) = nibble(*digit) {
@@ -28,7 +28,27 @@ pub fn push_octets(rt: &impl Abort, octets: &mut Vec<u8>, text: &str) {
     }
 }
 
-/// The octets of pairs of hexadecimal digits; what is no digit is passed over.
+// Adds the addresses of so many stations at the end, from 02:00:00:00:00:01 on.
+fn push_stations(rt: &impl Abort, octets: &mut Vec<u8>, count: u8) {
+    for number in 0..count {
+        let station = [2, 0, 0, 0, 0, number + 1];
+        octets.extend_from_slice(&station).expect(rt, "memory");
+    }
+}
+
+/// Adds the octets of pairs of hexadecimal digits at the end, and behind `*30`, which a text may end with, the addresses of 30 stations,
+/// from 02:00:00:00:00:01 on; what else is no digit is passed over.
+pub fn push_octets(rt: &impl Abort, octets: &mut Vec<u8>, text: &str) {
+    match text.split_once('*') {
+        Some((digits, count)) => {
+            push_digits(rt, octets, digits);
+            push_stations(rt, octets, count.parse::<u8>().ok().expect(rt, "a number"));
+        }
+        None => push_digits(rt, octets, text),
+    }
+}
+
+/// The octets of a text, as they are added by `push_octets`.
 pub fn octets_of(rt: &impl Abort, alloc: Global, text: &str) -> Vec<u8> {
     let mut octets = Vec::new(alloc);
     push_octets(rt, &mut octets, text);

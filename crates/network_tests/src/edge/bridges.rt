@@ -1,8 +1,8 @@
 //! One edge without wires bridges frames between its circuits.
 
-use crate::edge::plans::BRIDGE;
 use crate::edge::side::{Side, side_of, take};
 use crate::edge::steps::{Step, play, plays};
+use crate::scenarios::BRIDGES;
 use edge_model::Input;
 use net_base::{CircuitId, DropCause, EdgeId, StateName};
 use std::alloc::Global;
@@ -124,7 +124,7 @@ const BRIDGES_ITS_SERVICES: [Step; 4] = [
 
 // The edge does steps.
 fn bridges(rt: &impl Abort, alloc: Global, steps: &[Step]) {
-    plays(rt, alloc, BRIDGE, E, 0, &[], steps);
+    plays(rt, alloc, BRIDGES, E, 0, &[], steps);
 }
 
 #[test]
@@ -177,7 +177,7 @@ fn fills(rt: &impl Abort, alloc: Global, side: &mut Side) {
 
 #[test]
 fn learns_4096_stations(rt: HostRuntime) {
-    let mut side = side_of(&rt, rt.alloc(), BRIDGE, E, 0);
+    let mut side = side_of(&rt, rt.alloc(), BRIDGES, E, 0);
     fills(&rt, rt.alloc(), &mut side);
     play(&rt, rt.alloc(), &mut side, &IS_FULL);
     drop(side);

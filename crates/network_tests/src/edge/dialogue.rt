@@ -1,9 +1,9 @@
 //! Two edges, each over a link of its own, of which each takes what the other one's link took, and nothing else.
 
-use crate::edge::plans::{A, B, PAIR};
 use crate::edge::proposals::{KEEP_ALIVE_OF_A, KEEP_ALIVE_OF_B, PROPOSAL_OF_A, PROPOSAL_OF_B};
 use crate::edge::side::{Side, side_of, take};
 use crate::edge::steps::{Step, play};
+use crate::scenarios::{A, B, SITES};
 use edge_model::Input;
 use net_base::{DropCause, EdgeId, LinkCall, StateName};
 use std::alloc::Global;
@@ -92,14 +92,14 @@ fn goes_on(rt: &impl Abort, alloc: Global, one: &mut Side, other: &mut Side, sto
 
 // Edge A meets edge B.
 fn meets(rt: &impl Abort, alloc: Global, one: &mut Side, story: &Story<'_>) {
-    let mut other = side_of(rt, alloc, PAIR, B, 0);
+    let mut other = side_of(rt, alloc, SITES, B, 0);
     goes_on(rt, alloc, one, &mut other, story);
     drop(other);
 }
 
 // A story happens. Each edge is held by a function of its own: to let two go in one would take long to prove.
 fn happens(rt: &impl Abort, alloc: Global, story: &Story<'_>) {
-    let mut one = side_of(rt, alloc, PAIR, A, story.fails);
+    let mut one = side_of(rt, alloc, SITES, A, story.fails);
     meets(rt, alloc, &mut one, story);
     drop(one);
 }

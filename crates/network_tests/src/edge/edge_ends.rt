@@ -2,7 +2,7 @@
 ghost use Rattle.std.specs.Prelude.{◌≡◌, ◌≤◌, [], None};
 ghost use Rattle.net_base.specs.plan.Accepted.{IsChecked};
 
-use crate::edge::plans::{A, B, C, PATH, TWO_WIRES, plan_of};
+use crate::scenarios::{A, B, C, PATH, TWO_WIRES, plan_of};
 use net_base::{EdgeId, Label, Offer, Plan, Text, WireId};
 use pw_ends::PwEnds;
 use pw_messages::content_of;

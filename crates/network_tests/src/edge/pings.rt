@@ -1,9 +1,9 @@
 //! An edge pings the far end of a pseudowire, and answers its pings (RFC 5085). Octets were worked out by hand.
 
-use crate::edge::plans::{A, B, BY_ALERT, BY_EXPIRY, BY_HEADER};
 use crate::edge::proposals::{KEEP_ALIVE_OF_A, PROPOSAL_OF_A};
 use crate::edge::pseudowires::UP;
 use crate::edge::steps::{Step, plays};
+use crate::scenarios::{A, B, BY_ALERT, BY_EXPIRY, BY_HEADER};
 use net_base::DropCause;
 use std::alloc::Global;
 use std::process::Abort;
@@ -312,8 +312,8 @@ const LETS_FRAMES_THROUGH: [Step; 6] = [
 ];
 
 // The edge with the larger address, whose session is up, does steps; the call of its link with this number fails.
-fn plays_up(rt: &impl Abort, alloc: Global, text: &str, fails: u64, steps: &[Step]) {
-    plays(rt, alloc, text, B, fails, &UP, steps);
+fn plays_up(rt: &impl Abort, alloc: Global, pieces: &[&str], fails: u64, steps: &[Step]) {
+    plays(rt, alloc, pieces, B, fails, &UP, steps);
 }
 
 #[test]

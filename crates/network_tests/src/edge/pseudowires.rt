@@ -1,8 +1,8 @@
 //! An edge hears what its peer says of a pseudowire.
 
-use crate::edge::plans::{A, B, PAIR, THREE_WIRES};
 use crate::edge::proposals::{KEEP_ALIVE_OF_A, PROPOSAL_OF_A};
 use crate::edge::steps::{Step, plays};
+use crate::scenarios::{A, B, SITES, THREE_WIRES};
 use net_base::DropCause;
 use std::alloc::Global;
 use std::process::Abort;
@@ -175,7 +175,7 @@ const LOSES_ITS_ENDS: [Step; 3] = [Step::Gives(3), Step::Gone(A), Step::NextLabe
 
 // The edge with the larger address, whose session is up, does steps; the call of its link with this number fails.
 fn plays_up(rt: &impl Abort, alloc: Global, fails: u64, steps: &[Step]) {
-    plays(rt, alloc, PAIR, B, fails, &UP, steps);
+    plays(rt, alloc, SITES, B, fails, &UP, steps);
 }
 
 #[test]

@@ -1,8 +1,8 @@
 //! Edges take what comes of connections. Their wire is off, so that nothing but sessions is told.
 
-use crate::edge::plans::{A, B, PAIR};
 use crate::edge::proposals::{KEEP_ALIVE_OF_A, KEEP_ALIVE_OF_B, PROPOSAL_OF_A, PROPOSAL_OF_B};
 use crate::edge::steps::{Step, plays};
+use crate::scenarios::{A, B, SITES};
 use net_base::{EdgeId, Reason, StateName};
 use std::alloc::Global;
 use std::process::Abort;
@@ -72,7 +72,7 @@ const EXPIRES: [Step; 5] = [
 
 // The edge with this place, whose wire is off, does steps; the call of its link with this number fails, and none for 0.
 fn plays_off(rt: &impl Abort, alloc: Global, me: EdgeId, fails: u64, steps: &[Step]) {
-    plays(rt, alloc, PAIR, me, fails, &OFF, steps);
+    plays(rt, alloc, SITES, me, fails, &OFF, steps);
 }
 
 #[test]

@@ -1,7 +1,7 @@
 //! An edge over a link in memory.
 ghost use Rattle.provider_edge.specs.Taking.{IsInRange};
 
-use crate::edge::plans::opened;
+use crate::scenarios::plan_of;
 use edge_model::{Effects, Input};
 use net_base::{EdgeId, List, MemLink};
 use provider_edge::Edge;
@@ -26,10 +26,17 @@ fn failing(rt: &impl Abort, alloc: Global, number: u64) -> List<u64> {
     numbers
 }
 
+// The edge of a scenario with this place.
+fn opened(rt: &impl Abort, alloc: Global, pieces: &[&str], me: EdgeId) -> Edge {
+    let plan = plan_of(rt, alloc, pieces);
+    assert!(rt; usize::from(me.0) < plan.edges.len());
+    Edge::open(alloc, &plan, me).expect(rt, "memory")
+}
+
 /// The edge of a scenario with this place; the call of its link with this number fails, and none for 0.
-pub fn side_of(rt: &impl Abort, alloc: Global, text: &str, me: EdgeId, fails: u64) -> Side {
+pub fn side_of(rt: &impl Abort, alloc: Global, pieces: &[&str], me: EdgeId, fails: u64) -> Side {
     Side {
-        edge: opened(rt, alloc, text, me),
+        edge: opened(rt, alloc, pieces, me),
         link: MemLink::new(alloc, failing(rt, alloc, fails)).expect(rt, "memory"),
         effects: Effects {
             idle: true,

@@ -304,13 +304,13 @@ pub fn play(rt: &impl Abort, alloc: Global, side: &mut Side, steps: &[Step]) {
 pub fn plays(
     rt: &impl Abort,
     alloc: Global,
-    text: &str,
+    pieces: &[&str],
     me: EdgeId,
     fails: u64,
     begin: &[Step],
     steps: &[Step],
 ) {
-    let mut side = side_of(rt, alloc, text, me, fails);
+    let mut side = side_of(rt, alloc, pieces, me, fails);
     play(rt, alloc, &mut side, begin);
     play(rt, alloc, &mut side, steps);
     drop(side);

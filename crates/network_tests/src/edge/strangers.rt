@@ -1,12 +1,12 @@
 //! Peers that send what they like, and links that fail: what an edge answers, and what it holds of it. All octets were worked out
 //! by hand.
 
-use crate::edge::plans::{A, B, C, CORE, PAIR};
 use crate::edge::proposals::{KEEP_ALIVE_OF_B, KEEP_ALIVE_OF_C, PROPOSAL_OF_B, PROPOSAL_OF_C};
 use crate::edge::pseudowires::UP;
 use crate::edge::side::{Side, side_of, take};
 use crate::edge::steps::{Step, play, plays};
 use crate::octets::{octets_of, push_octets};
+use crate::scenarios::{A, B, C, CORE, SITES};
 use edge_model::Input;
 use net_base::{DropCause, Reason, StateName};
 use std::alloc::Global;
@@ -57,7 +57,7 @@ fn ends_by(rt: &impl Abort, alloc: Global, fault: &Fault) {
         Step::Idle,
         Step::Calls(1),
     ];
-    plays(rt, alloc, PAIR, A, 0, &[], &steps);
+    plays(rt, alloc, SITES, A, 0, &[], &steps);
 }
 
 #[test]
@@ -92,7 +92,7 @@ fn hears_mappings(rt: &impl Abort, alloc: Global, side: &mut Side, front: &str, 
 
 // The edge with the larger address, whose session is up, hears 10,000 mappings; what it has to have done then.
 fn holds_after(rt: &impl Abort, alloc: Global, front: &str, steps: &[Step]) {
-    let mut side = side_of(rt, alloc, PAIR, B, 0);
+    let mut side = side_of(rt, alloc, SITES, B, 0);
     play(rt, alloc, &mut side, &UP);
     hears_mappings(rt, alloc, &mut side, front, 10000);
     play(rt, alloc, &mut side, steps);
@@ -174,6 +174,6 @@ const GOES_ON_TO_THE_OTHERS: [Step; 8] = [
 #[test]
 fn a_link_fault_stays_where_it_is(rt: HostRuntime) {
     let alloc = rt.alloc();
-    plays(&rt, alloc, PAIR, B, 1, &[], &CONNECTS_IN_VAIN);
+    plays(&rt, alloc, SITES, B, 1, &[], &CONNECTS_IN_VAIN);
     plays(&rt, alloc, CORE, A, 7, &BOTH_UP, &GOES_ON_TO_THE_OTHERS);
 }

@@ -2,34 +2,13 @@
 ghost use Rattle.std.specs.Prelude.{◌≡◌, is_some};
 ghost use Rattle.independent_model.specs.Wires.{other_end, other_of_two};
 
+use crate::scenarios::{A, B, SHORT_AND_LONG, SITES, plan_of};
 use independent_mode::{IndepEdge, IndepStop, Wish};
-use net_base::{EdgeId, List, MemLink, Plan, WireId};
-use scenario_text::read_scenario;
+use net_base::{EdgeId, LinkCall, List, MemLink, Plan, WireId};
 use std::alloc::Global;
 use std::process::Abort;
 
-pub const A: EdgeId = EdgeId(0);
-
-pub const B: EdgeId = EdgeId(1);
-
-pub const W: WireId = WireId(0);
-
-// Two edges with a circuit each, and a wire between them.
-const PAIR: &str = r#"
-version = 1
-edge = [{ name = "a", address = "10.0.0.1" }, { name = "b", address = "10.0.0.2" }]
-service = [{ name = "s" }]
-circuit = [{ name = "ca", edge = "a", service = "s" }, { name = "cb", edge = "b", service = "s" }]
-wire = [{ name = "w", service = "s", class = "mesh", path = ["a", "b"], pw_id = 100 }]
-"#;
-
-// Three edges, a wire between the first two, and one over all three.
-const THREE: &str = r#"
-version = 1
-edge = [{ name = "a", address = "10.0.0.1" }, { name = "b", address = "10.0.0.2" }, { name = "c", address = "10.0.0.3" }]
-service = [{ name = "s" }, { name = "t" }]
-wire = [{ name = "w", service = "s", class = "mesh", path = ["a", "b"], pw_id = 100 }, { name = "l", service = "t", class = "mesh", path = ["a", "b", "c"], pw_id = 101 }]
-"#;
+const W: WireId = WireId(0);
 
 /// One of two edges, its link, and what it has put that its peer has not heard.
 #[derive(Drop)]
@@ -41,39 +20,18 @@ pub struct End {
     way: Vec<u8>,
 }
 
-/// What is done to two edges.
-#[derive(Clone, Copy)]
-pub enum Step {
-    /// Both are connected, the first one first.
-    Connect,
-    /// Both lose the connection, and all that is on its way is lost.
-    Cut,
-    /// The first edge calls the wire something else.
-    First(Wish),
-    /// The second one does.
-    Second(Wish),
-    /// So many octets come to the second edge at most.
-    ToSecond(usize),
-    /// So many octets come to the first edge at most.
-    ToFirst(usize),
-    /// All octets come, in pieces of at most so many, until nothing is on its way.
-    Settle(usize),
-}
-
 /// An edge of the two before its first call, with a link of which these calls fail.
 pub fn end_of(rt: &impl Abort, alloc: Global, me: EdgeId, fails: &[u64]) -> End {
-    end_in(rt, alloc, PAIR, me, fails)
+    end_in(rt, alloc, SITES, me, fails)
 }
 
 /// The same of an edge of three, of which the first two have a wire between them and one that goes on to the third.
 pub fn end_of_three(rt: &impl Abort, alloc: Global, me: EdgeId) -> End {
-    end_in(rt, alloc, THREE, me, &[])
+    end_in(rt, alloc, SHORT_AND_LONG, me, &[])
 }
 
-fn end_in(rt: &impl Abort, alloc: Global, text: &str, me: EdgeId, fails: &[u64]) -> End {
-    let plan = read_scenario(alloc, text.as_bytes())
-        .expect(rt, "a scenario")
-        .plan;
+fn end_in(rt: &impl Abort, alloc: Global, pieces: &[&str], me: EdgeId, fails: &[u64]) -> End {
+    let plan = plan_of(rt, alloc, pieces);
     assert!(rt; (me.0 as usize) < plan.edges.len());
     let mut numbers = List::new(alloc);
     for number in fails.iter() {
@@ -155,35 +113,66 @@ pub fn calls_so(rt: &impl Abort, end: &End, wish: Wish) -> bool {
     end.edge.calls_so(W, wish)
 }
 
-/// Does steps one after another.
-pub fn run(rt: &impl Abort, alloc: Global, a: &mut End, b: &mut End, steps: &[Step]) {
-    for step in steps.iter() {
-        do_step(rt, alloc, a, b, *step);
+/// Does steps, which commas part: both ends `connect`, the first one first; both `lose` the connection, and all that is on its way is lost;
+/// all octets `settle`, in pieces of at most so many, until nothing is on its way. An end, `A` or `B`, `asks`, is `active` or `standby`, or
+/// `hears` so many octets of the other one at most.
+pub fn run(rt: &impl Abort, alloc: Global, a: &mut End, b: &mut End, steps: &str) {
+    for step in steps.split(", ") {
+        do_step(rt, alloc, a, b, step);
     }
 }
 
-fn do_step(rt: &impl Abort, alloc: Global, a: &mut End, b: &mut End, step: Step) {
-    match step {
-        Step::Connect => {
-            connected(rt, alloc, a, B).expect(rt, "connected");
-            connected(rt, alloc, b, A).expect(rt, "connected");
-        }
-        Step::Cut => {
-            lost(rt, a, B);
-            lost(rt, b, A);
-            forget(rt, a);
-            forget(rt, b);
-        }
-        Step::First(to) => set_twice(rt, alloc, a, to),
-        Step::Second(to) => set_twice(rt, alloc, b, to),
-        Step::ToSecond(count) => {
-            bring(rt, alloc, a, b, count);
-        }
-        Step::ToFirst(count) => {
-            bring(rt, alloc, b, a, count);
-        }
-        Step::Settle(size) => settle(rt, alloc, a, b, size),
+// The words before and behind the first blank.
+fn cut(words: &str) -> (&str, &str) {
+    match words.split_once(' ') {
+        Some(parts) => parts,
+        None => (words, ""),
     }
+}
+
+// The number of these digits.
+fn number(rt: &impl Abort, digits: &str) -> usize {
+    digits.parse::<usize>().ok().expect(rt, "a number")
+}
+
+fn do_step(rt: &impl Abort, alloc: Global, a: &mut End, b: &mut End, step: &str) {
+    let (first, more) = cut(step);
+    match first.as_bytes() {
+        b"A" => end_does(rt, alloc, a, b, more),
+        b"B" => end_does(rt, alloc, b, a, more),
+        b"connect" => connect(rt, alloc, a, b),
+        b"lose" => lose(rt, a, b),
+        b"settle" => settle(rt, alloc, a, b, number(rt, more)),
+        _ => assert!(rt; first.is_empty(), "{step}"),
+    }
+}
+
+// An end of a wire hears so many octets of the other one, or calls the wire something else.
+fn end_does(rt: &impl Abort, alloc: Global, end: &mut End, other: &mut End, words: &str) {
+    let (first, more) = cut(words);
+    match first.as_bytes() {
+        b"hears" => {
+            bring(rt, alloc, other, end, number(rt, more));
+        }
+        b"asks" => set_twice(rt, alloc, end, Wish::Ask),
+        b"active" => set_twice(rt, alloc, end, Wish::Active),
+        b"standby" => set_twice(rt, alloc, end, Wish::Standby),
+        _ => assert!(rt; false, "{words}"),
+    }
+}
+
+// Both are connected, the first one first.
+fn connect(rt: &impl Abort, alloc: Global, a: &mut End, b: &mut End) {
+    connected(rt, alloc, a, B).expect(rt, "connected");
+    connected(rt, alloc, b, A).expect(rt, "connected");
+}
+
+// Both lose the connection, and all that is on its way is lost.
+fn lose(rt: &impl Abort, a: &mut End, b: &mut End) {
+    lost(rt, a, B);
+    lost(rt, b, A);
+    forget(rt, a);
+    forget(rt, b);
 }
 
 // The wire is called something else; the second time that is no change.
@@ -231,14 +220,20 @@ fn settle(rt: &impl Abort, alloc: Global, a: &mut End, b: &mut End, size: usize)
     assert!(rt; false);
 }
 
-/// An end has told these statuses so far, in messages that are numbered from 1 on each connection: the octets at fixed places.
-pub fn has_told(rt: &impl Abort, end: &End, statuses: &[u8]) {
-    let calls = end.link.calls();
-    assert!(rt; calls.len() == statuses.len());
-    for place in 0..statuses.len() {
-        let call = calls.get(place).expect(rt, "a call");
-        let octets = call.bytes.as_slice();
-        assert!(rt; octets.len() == 56);
-        assert!(rt; octets[39] == statuses[place]);
+// Whether a call has put a status: the octet at its place in a Notification of one status of a wire.
+fn is_status(call: Option<&LinkCall>, status: u8) -> bool {
+    match call {
+        Some(call) => call.bytes.len() == 56 && call.bytes.as_slice().get(39) == Some(&status),
+        None => false,
     }
+}
+
+/// Whether an end has told these statuses so far, in messages that are numbered from 1 on each connection.
+pub fn has_told(end: &End, statuses: &[u8]) -> bool {
+    let calls = end.link.calls();
+    let mut same = calls.len() == statuses.len();
+    for (place, status) in statuses.iter().enumerate() {
+        same = same && is_status(calls.get(place), *status);
+    }
+    same
 }

@@ -1,9 +1,10 @@
 //! What two edges tell each other of a wire, row by row.
 
 use crate::independent::pair::{
-    A, B, End, Step, calls_so, connected, end_of, end_of_three, has_told, hear, lost, run, set,
-    uses,
+    End, calls_so, connected, end_of, end_of_three, has_told, hear, lost, run, set, uses,
 };
+use crate::octets::{is_same, octets_of};
+use crate::scenarios::{A, B};
 use independent_mode::{IndepStop, Wish};
 use ldp_stream::StreamFault;
 use std::alloc::Global;
@@ -12,165 +13,60 @@ use std::process::Abort;
 const FIRST: &[u8] =
     b"\x00\x01\x00\x34\x0a\x00\x00\x01\x00\x00\x00\x01\x00\x2a\x00\x00\x00\x01\x03\x00\x00\x0a\x00\x00\x00\x28\x00\x00\x00\x00\x00\x00\x89\x6a\x00\x04\x00\x00\x00\x20\x01\x00\x00\x0c\x80\x80\x05\x04\x00\x00\x00\x00\x00\x00\x00\x64";
 
-// Does steps over pieces of a size, and looks at what each end has told and whether it uses the wire.
-fn row(rt: &impl Abort, alloc: Global, steps: &[Step], told: (&[u8], &[u8]), used: (bool, bool)) {
+// Steps of two ends, and behind `= ` the statuses that each of them has told then, and whether both use the wire or none does. Lines that
+// end in a full stop are words for a reader.
+const ROWS: &str = "
+    One end asks, in pieces of each size.
+    connect, settle 1, A asks, settle 1 = 204000 2000 used
+    connect, settle 37, A asks, settle 37 = 204000 2000 used
+    connect, settle 56, A asks, settle 56 = 204000 2000 used
+    connect, settle 4096, A asks, settle 4096 = 204000 2000 used
+    Both ask, and their requests cross.
+    connect, settle 56, A asks, B asks, settle 56 = 204000 204000 used
+    An active end is asked.
+    connect, B active, settle 56, A asks, settle 56 = 204000 200000 used
+    An end that was asked stands by.
+    connect, settle 56, A asks, B hears 56, B standby, settle 56 = 204000 200020 unused
+    An end that has asked stands by.
+    connect, settle 56, A asks, A standby, settle 56 = 204020 2000 unused
+    A request is cut in its middle.
+    connect, settle 56, A asks, B hears 30, lose, connect, settle 56 = 20404000 202000 used
+    An answer is cut in its middle.
+    connect, settle 56, A asks, B hears 56, A hears 30, lose, connect, settle 56 = 20404000 20000000 used
+    Nothing is known over a loss.
+    connect, A asks, settle 56, lose = 204000 2000 unused
+";
+
+// Whether an end has told these statuses, and uses the wire or does not.
+fn stands(rt: &impl Abort, alloc: Global, end: &End, told: &str, used: bool) -> bool {
+    let statuses = octets_of(rt, alloc, told);
+    has_told(end, statuses.as_slice()) && uses(rt, end) == used
+}
+
+// Whether two ends come to what a row says of them.
+fn comes_to(rt: &impl Abort, alloc: Global, steps: &str, words: &str) -> bool {
     let mut a = end_of(rt, alloc, A, &[]);
     let mut b = end_of(rt, alloc, B, &[]);
     run(rt, alloc, &mut a, &mut b, steps);
-    has_told(rt, &a, told.0);
-    has_told(rt, &b, told.1);
-    assert!(rt; uses(rt, &a) == used.0);
-    assert!(rt; uses(rt, &b) == used.1);
+    let (of_a, more) = words.split_once(' ').expect(rt, "two words");
+    let (of_b, used) = more.split_once(' ').expect(rt, "two words");
+    let used = is_same(used.as_bytes(), b"used");
+    stands(rt, alloc, &a, of_a, used) && stands(rt, alloc, &b, of_b, used)
 }
 
-#[test]
-fn one_end_asks(rt: HostRuntime) {
-    for size in [1, 37, 56, 4096].iter() {
-        let steps = [
-            Step::Connect,
-            Step::Settle(*size),
-            Step::First(Wish::Ask),
-            Step::Settle(*size),
-        ];
-        row(
-            &rt,
-            rt.alloc(),
-            &steps,
-            (b"\x20\x40\x00", b"\x20\x00"),
-            (true, true),
-        );
+// A line is empty, words for a reader, or a row to which two ends come.
+fn holds(rt: &impl Abort, alloc: Global, line: &str) -> bool {
+    match line.split_once(" = ") {
+        Some((steps, words)) => comes_to(rt, alloc, steps, words),
+        None => line.is_empty() || line.ends_with('.'),
     }
 }
 
 #[test]
-fn asks_cross(rt: HostRuntime) {
-    let steps = [
-        Step::Connect,
-        Step::Settle(56),
-        Step::First(Wish::Ask),
-        Step::Second(Wish::Ask),
-        Step::Settle(56),
-    ];
-    row(
-        &rt,
-        rt.alloc(),
-        &steps,
-        (b"\x20\x40\x00", b"\x20\x40\x00"),
-        (true, true),
-    );
-}
-
-#[test]
-fn an_active_end_is_asked(rt: HostRuntime) {
-    let steps = [
-        Step::Connect,
-        Step::Second(Wish::Active),
-        Step::Settle(56),
-        Step::First(Wish::Ask),
-        Step::Settle(56),
-    ];
-    row(
-        &rt,
-        rt.alloc(),
-        &steps,
-        (b"\x20\x40\x00", b"\x20\x00\x00"),
-        (true, true),
-    );
-}
-
-#[test]
-fn an_end_that_was_asked_stands_by(rt: HostRuntime) {
-    let steps = [
-        Step::Connect,
-        Step::Settle(56),
-        Step::First(Wish::Ask),
-        Step::ToSecond(56),
-        Step::Second(Wish::Standby),
-        Step::Settle(56),
-    ];
-    row(
-        &rt,
-        rt.alloc(),
-        &steps,
-        (b"\x20\x40\x00", b"\x20\x00\x20"),
-        (false, false),
-    );
-}
-
-#[test]
-fn an_end_that_has_asked_stands_by(rt: HostRuntime) {
-    let steps = [
-        Step::Connect,
-        Step::Settle(56),
-        Step::First(Wish::Ask),
-        Step::First(Wish::Standby),
-        Step::Settle(56),
-    ];
-    row(
-        &rt,
-        rt.alloc(),
-        &steps,
-        (b"\x20\x40\x20", b"\x20\x00"),
-        (false, false),
-    );
-}
-
-#[test]
-fn a_request_is_cut_in_its_middle(rt: HostRuntime) {
-    let steps = [
-        Step::Connect,
-        Step::Settle(56),
-        Step::First(Wish::Ask),
-        Step::ToSecond(30),
-        Step::Cut,
-        Step::Connect,
-        Step::Settle(56),
-    ];
-    row(
-        &rt,
-        rt.alloc(),
-        &steps,
-        (b"\x20\x40\x40\x00", b"\x20\x20\x00"),
-        (true, true),
-    );
-}
-
-#[test]
-fn an_answer_is_cut_in_its_middle(rt: HostRuntime) {
-    let steps = [
-        Step::Connect,
-        Step::Settle(56),
-        Step::First(Wish::Ask),
-        Step::ToSecond(56),
-        Step::ToFirst(30),
-        Step::Cut,
-        Step::Connect,
-        Step::Settle(56),
-    ];
-    row(
-        &rt,
-        rt.alloc(),
-        &steps,
-        (b"\x20\x40\x40\x00", b"\x20\x00\x00\x00"),
-        (true, true),
-    );
-}
-
-#[test]
-fn nothing_is_known_over_a_loss(rt: HostRuntime) {
-    let steps = [
-        Step::Connect,
-        Step::First(Wish::Ask),
-        Step::Settle(56),
-        Step::Cut,
-    ];
-    row(
-        &rt,
-        rt.alloc(),
-        &steps,
-        (b"\x20\x40\x00", b"\x20\x00"),
-        (false, false),
-    );
+fn two_ends_tell_each_other_of_a_wire(rt: HostRuntime) {
+    for line in ROWS.lines() {
+        assert!(&rt; holds(&rt, rt.alloc(), line.trim()), "{line}");
+    }
 }
 
 #[test]
@@ -183,7 +79,7 @@ fn the_first_octets(rt: HostRuntime) {
 }
 
 // One end whose put with a number fails: the statuses that it has told are those of its calls, the failed one among them.
-fn failing(rt: &impl Abort, alloc: Global, number: u64, steps: &[Step]) -> (End, End) {
+fn failing(rt: &impl Abort, alloc: Global, number: u64, steps: &str) -> (End, End) {
     let mut a = end_of(rt, alloc, A, &[]);
     let mut b = end_of(rt, alloc, B, &[number]);
     run(rt, alloc, &mut a, &mut b, steps);
@@ -193,34 +89,29 @@ fn failing(rt: &impl Abort, alloc: Global, number: u64, steps: &[Step]) -> (End,
 #[test]
 fn the_first_put_fails(rt: HostRuntime) {
     let alloc = rt.alloc();
-    let (_, mut b) = failing(&rt, alloc, 1, &[]);
+    let (_, mut b) = failing(&rt, alloc, 1, "");
     assert!(rt; connected(&rt, alloc, &mut b, A) == Err(IndepStop::Link));
     assert!(rt; b.edge.is_connected(A));
-    has_told(&rt, &b, b"\x20");
+    assert!(rt; has_told(&b, b"\x20"));
     lost(&rt, &mut b, A);
     assert!(rt; !b.edge.is_connected(A));
     assert!(rt; connected(&rt, alloc, &mut b, A) == Ok(()));
-    has_told(&rt, &b, b"\x20\x20");
+    assert!(rt; has_told(&b, b"\x20\x20"));
 }
 
 #[test]
 fn the_put_of_a_set_fails(rt: HostRuntime) {
     let alloc = rt.alloc();
-    let (_, mut b) = failing(&rt, alloc, 2, &[Step::Connect, Step::Settle(56)]);
+    let (_, mut b) = failing(&rt, alloc, 2, "connect, settle 56");
     assert!(rt; set(&rt, alloc, &mut b, Wish::Ask) == Err(IndepStop::Link));
     assert!(rt; calls_so(&rt, &b, Wish::Ask));
-    has_told(&rt, &b, b"\x20\x40");
+    assert!(rt; has_told(&b, b"\x20\x40"));
 }
 
 #[test]
 fn the_put_of_an_answer_fails(rt: HostRuntime) {
     let alloc = rt.alloc();
-    let (a, mut b) = failing(
-        &rt,
-        alloc,
-        2,
-        &[Step::Connect, Step::Settle(56), Step::First(Wish::Ask)],
-    );
+    let (a, mut b) = failing(&rt, alloc, 2, "connect, settle 56, A asks");
     let octets = a.link.calls().get(1).expect(&rt, "a call").bytes.as_slice();
     assert!(rt; hear(&rt, alloc, &mut b, A, octets) == Err(IndepStop::Link));
     assert!(rt; b.edge.is_connected(A) && uses(&rt, &b));
@@ -285,7 +176,7 @@ const ACTIVE_THEN_STANDBY: &[u8] =
 fn ignores(rt: &impl Abort, alloc: Global, end: &mut End, octets: &[u8]) {
     assert!(rt; hear(rt, alloc, end, B, octets) == Ok(()));
     assert!(rt; !uses(rt, end));
-    has_told(rt, end, b"\x20\x00");
+    assert!(rt; has_told(end, b"\x20\x00"));
 }
 
 #[test]
@@ -308,9 +199,9 @@ fn two_messages_in_one_pdu(rt: HostRuntime) {
     assert!(rt; set(&rt, alloc, &mut a, Wish::Active) == Ok(true));
     // The request is answered, the status behind it is not, and is what is known.
     assert!(rt; hear(&rt, alloc, &mut a, B, ASKS_THEN_ACTIVE) == Ok(()));
-    has_told(&rt, &a, b"\x20\x00\x00");
+    assert!(rt; has_told(&a, b"\x20\x00\x00"));
     assert!(rt; uses(&rt, &a));
     assert!(rt; hear(&rt, alloc, &mut a, B, ACTIVE_THEN_STANDBY) == Ok(()));
-    has_told(&rt, &a, b"\x20\x00\x00");
+    assert!(rt; has_told(&a, b"\x20\x00\x00"));
     assert!(rt; !uses(&rt, &a));
 }

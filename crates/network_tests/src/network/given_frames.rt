@@ -1,8 +1,8 @@
 //! A network tells the same of a frame that it is given and of one that it is lent.
 
-use crate::network::plans::{BRIDGE, network_of};
-use crate::network::steps::{frame_octets, place_in};
+use crate::network::steps::{frame_octets, network_of, place_in};
 use crate::network::traces::kinds_of;
+use crate::scenarios::BRIDGE;
 use net_base::{CircuitId, Entry, Event, Trace};
 use psn_net::Network;
 use std::alloc::Global;
@@ -108,8 +108,8 @@ fn are_same(rt: &impl Abort, alloc: Global, trace: &Trace, other: &Trace) {
 
 #[test]
 fn tells_the_same_of_a_frame_that_is_given(rt: HostRuntime) {
-    let mut lent = network_of(&rt, rt.alloc(), &BRIDGE);
-    let mut given = network_of(&rt, rt.alloc(), &BRIDGE);
+    let mut lent = network_of(&rt, rt.alloc(), BRIDGE);
+    let mut given = network_of(&rt, rt.alloc(), BRIDGE);
     lends_all(&rt, rt.alloc(), &mut lent);
     gives_all(&rt, rt.alloc(), &mut given);
     are_same(&rt, rt.alloc(), lent.trace(), given.trace());

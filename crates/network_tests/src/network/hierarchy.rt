@@ -1,7 +1,7 @@
 //! A hierarchy of four core edges in full mesh and of two spoke edges that hang on them: what floods over it in a calm service.
 
-use crate::network::plans::{HIERARCHY, TWO_SPOKES};
 use crate::network::steps::{Step, plays};
+use crate::scenarios::{HIERARCHY, TWO_SPOKES};
 
 /// A broadcast from the station 02:00:00:00:00:01, and a frame to it from the station 02:00:00:00:00:02.
 const BROADCAST: &str = "ffffffffffff0200000000010800";
@@ -79,8 +79,8 @@ const MOVES: [Step; 19] = [
 #[test]
 fn floods_over_a_hierarchy(rt: HostRuntime) {
     let alloc = rt.alloc();
-    plays(&rt, alloc, &HIERARCHY, &UP, &FLOODS);
-    plays(&rt, alloc, &HIERARCHY, &UP, &ANSWERS);
-    plays(&rt, alloc, &HIERARCHY, &UP, &LOSES_A_SPOKE);
-    plays(&rt, alloc, &TWO_SPOKES, &UP, &MOVES);
+    plays(&rt, alloc, HIERARCHY, &UP, &FLOODS);
+    plays(&rt, alloc, HIERARCHY, &UP, &ANSWERS);
+    plays(&rt, alloc, HIERARCHY, &UP, &LOSES_A_SPOKE);
+    plays(&rt, alloc, TWO_SPOKES, &UP, &MOVES);
 }

@@ -1,80 +1,57 @@
 //! Labels are given again, and packets age. The first edge has one label left, 1048575.
 
-use crate::network::plans::{
-    LARGEST, LAST_LABEL, LAST_LABEL_AND_A_SHORT_SESSION, LAST_LABEL_OF_TWO,
-};
 use crate::network::steps::{Step, plays};
+use crate::scenarios::{LARGEST, LAST_LABEL, LAST_LABEL_AND_A_SHORT_SESSION, LAST_LABEL_OF_TWO};
 
 const UP: [Step; 3] = [Step::Connect(0, 1), Step::Settle, Step::Mappings(0, 1, 1)];
 
 // A number that is freed while the connection stands waits for the next one, however many ticks pass; then it rests for 64.
-const WAITS_FOR_THE_NEXT_CONNECTION: [Step; 17] = [
+const WAITS_FOR_THE_NEXT_CONNECTION: [Step; 11] = [
     Step::Wire(0, false),
     Step::Settle,
     Step::Wire(0, true),
     Step::Ticks(64),
     Step::Mappings(0, 1, 1),
     Step::NextLabel(0, 1048576),
-    Step::Lose(0, 1),
-    Step::Settle,
-    Step::Connect(0, 1),
-    Step::Settle,
-    Step::Ticks(63),
-    Step::Mappings(0, 1, 1),
-    Step::Tick,
-    Step::Mappings(0, 1, 2),
+    Step::Reconnect(0, 1),
+    Step::Maps(0, 1, 64, 2),
     Step::Settle,
     Step::Bound(17, 1048575),
     Step::NextLabel(0, 1048576),
 ];
 
 // Ticks before the connection count for nothing.
-const RESTS_FROM_THE_CONNECTION_ON: [Step; 9] = [
+const RESTS_FROM_THE_CONNECTION_ON: [Step; 6] = [
     Step::Lose(0, 1),
     Step::Settle,
     Step::Ticks(64),
     Step::Connect(0, 1),
     Step::Settle,
-    Step::Ticks(63),
-    Step::Mappings(0, 1, 1),
-    Step::Tick,
-    Step::Mappings(0, 1, 2),
+    Step::Maps(0, 1, 64, 2),
 ];
 
 // A number that rests already does not begin anew with a later connection.
-const RESTS_ON: [Step; 13] = [
-    Step::Lose(0, 1),
-    Step::Settle,
-    Step::Connect(0, 1),
-    Step::Settle,
+const RESTS_ON: [Step; 4] = [
+    Step::Reconnect(0, 1),
     Step::Ticks(30),
-    Step::Lose(0, 1),
-    Step::Settle,
-    Step::Connect(0, 1),
-    Step::Settle,
-    Step::Ticks(33),
-    Step::Mappings(0, 1, 1),
-    Step::Tick,
-    Step::Mappings(0, 1, 2),
+    Step::Reconnect(0, 1),
+    Step::Maps(0, 1, 34, 2),
 ];
 
 // After a restart the numbers that the edge owned wait for their neighbours.
-const WAITS_AFTER_A_RESTART: [Step; 10] = [
+const WAITS_AFTER_A_RESTART: [Step; 7] = [
     Step::Restart(0),
     Step::Settle,
     Step::Ticks(64),
     Step::Connect(0, 1),
     Step::Settle,
-    Step::Ticks(63),
-    Step::Mappings(0, 1, 1),
-    Step::Tick,
-    Step::Mappings(0, 1, 2),
+    Step::Maps(0, 1, 64, 2),
     Step::NextLabel(0, 1048576),
 ];
 
 // A connection with another neighbour begins no rest. Once the number is free, the first end in the order of wires that wants one has it,
 // though it is of another neighbour.
-const GOES_TO_THE_FIRST_WIRE: [Step; 16] = [
+const GOES_TO_THE_FIRST_WIRE: [Step; 12] = [
     Step::Lose(0, 1),
     Step::Settle,
     Step::Connect(0, 2),
@@ -84,41 +61,32 @@ const GOES_TO_THE_FIRST_WIRE: [Step; 16] = [
     Step::Mappings(0, 1, 1),
     Step::Connect(0, 1),
     Step::Settle,
-    Step::Ticks(63),
-    Step::Mappings(0, 2, 0),
-    Step::Mappings(0, 1, 1),
-    Step::Tick,
-    Step::Mappings(0, 2, 1),
+    Step::Maps(0, 2, 64, 1),
     Step::Mappings(0, 1, 1),
     Step::NextLabel(0, 1048576),
 ];
 
 // The end that would have the number is lost at the tick that makes it free, since its session expires then: the next one has it.
-const GOES_TO_ONE_WHOSE_SESSION_STANDS: [Step; 10] = [
-    Step::Lose(0, 1),
-    Step::Settle,
-    Step::Connect(0, 1),
-    Step::Settle,
+const GOES_TO_ONE_WHOSE_SESSION_STANDS: [Step; 5] = [
+    Step::Reconnect(0, 1),
     Step::Connect(0, 2),
     Step::Settle,
-    Step::Ticks(63),
-    Step::Tick,
+    Step::Maps(0, 1, 64, 2),
     Step::Mappings(0, 2, 0),
-    Step::Mappings(0, 1, 2),
 ];
 
 #[test]
 fn labels_are_given_again(rt: HostRuntime) {
     let alloc = rt.alloc();
-    plays(&rt, alloc, &LAST_LABEL, &UP, &WAITS_FOR_THE_NEXT_CONNECTION);
-    plays(&rt, alloc, &LAST_LABEL, &UP, &RESTS_FROM_THE_CONNECTION_ON);
-    plays(&rt, alloc, &LAST_LABEL, &UP, &RESTS_ON);
-    plays(&rt, alloc, &LAST_LABEL, &UP, &WAITS_AFTER_A_RESTART);
-    plays(&rt, alloc, &LAST_LABEL_OF_TWO, &UP, &GOES_TO_THE_FIRST_WIRE);
+    plays(&rt, alloc, LAST_LABEL, &UP, &WAITS_FOR_THE_NEXT_CONNECTION);
+    plays(&rt, alloc, LAST_LABEL, &UP, &RESTS_FROM_THE_CONNECTION_ON);
+    plays(&rt, alloc, LAST_LABEL, &UP, &RESTS_ON);
+    plays(&rt, alloc, LAST_LABEL, &UP, &WAITS_AFTER_A_RESTART);
+    plays(&rt, alloc, LAST_LABEL_OF_TWO, &UP, &GOES_TO_THE_FIRST_WIRE);
     plays(
         &rt,
         alloc,
-        &LAST_LABEL_AND_A_SHORT_SESSION,
+        LAST_LABEL_AND_A_SHORT_SESSION,
         &UP,
         &GOES_TO_ONE_WHOSE_SESSION_STANDS,
     );
@@ -170,7 +138,7 @@ const AGES_ONE_BY_ONE: [Step; 9] = [
 #[test]
 fn packets_age(rt: HostRuntime) {
     let alloc = rt.alloc();
-    plays(&rt, alloc, &LARGEST, &SENDS, &AGES);
-    plays(&rt, alloc, &LARGEST, &SENDS, &COPIES_AGE_ALIKE);
-    plays(&rt, alloc, &LARGEST, &SENDS, &AGES_ONE_BY_ONE);
+    plays(&rt, alloc, LARGEST, &SENDS, &AGES);
+    plays(&rt, alloc, LARGEST, &SENDS, &COPIES_AGE_ALIKE);
+    plays(&rt, alloc, LARGEST, &SENDS, &AGES_ONE_BY_ONE);
 }

@@ -1,8 +1,8 @@
 //! The largest frame crosses a wire.
 ghost use Rattle.std.specs.Prelude.{◌≤◌, length};
 
-use crate::network::plans::{LARGEST, network_of};
-use crate::network::steps::{Step, play};
+use crate::network::steps::{Step, network_of, play};
+use crate::scenarios::LARGEST;
 use net_base::{CircuitId, Entry, Event, List, Octets};
 use psn_net::Network;
 use std::alloc::Global;
@@ -54,7 +54,7 @@ fn crosses(rt: &impl Abort, alloc: Global, network: &mut Network) {
 
 #[test]
 fn carries_the_largest_frame(rt: HostRuntime) {
-    let mut network = network_of(&rt, rt.alloc(), &LARGEST);
+    let mut network = network_of(&rt, rt.alloc(), LARGEST);
     crosses(&rt, rt.alloc(), &mut network);
     drop(network.into_trace());
 }

@@ -1,7 +1,7 @@
 //! The largest network of one edge floods as much as the limit lets be.
 ghost use Rattle.std.specs.Prelude.{◌<◌};
 
-use crate::network::plans::network_of;
+use crate::network::steps::network_of;
 use net_base::{CircuitId, Event, List};
 use psn_net::{NetStop, Network};
 use std::alloc::Global;

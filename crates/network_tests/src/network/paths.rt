@@ -1,7 +1,7 @@
 //! Wires over switching points: when their service is calm, and how many segments a broadcast passes over them.
 
-use crate::network::plans::CHAINS;
 use crate::network::steps::{Step, plays};
+use crate::scenarios::CHAINS;
 
 /// A broadcast of 14 octets.
 const BROADCAST: &str = "ffffffffffff0200000000010800";
@@ -89,8 +89,8 @@ const RESTARTS: [Step; 17] = [
 #[test]
 fn floods_over_switching_points(rt: HostRuntime) {
     let alloc = rt.alloc();
-    plays(&rt, alloc, &CHAINS, &UP, &PASSES_TWELVE);
-    plays(&rt, alloc, &CHAINS, &UP, &LOSES_ITS_MIDDLE);
-    plays(&rt, alloc, &CHAINS, &UP, &PASSES_A_FAILURE_ON);
-    plays(&rt, alloc, &CHAINS, &UP, &RESTARTS);
+    plays(&rt, alloc, CHAINS, &UP, &PASSES_TWELVE);
+    plays(&rt, alloc, CHAINS, &UP, &LOSES_ITS_MIDDLE);
+    plays(&rt, alloc, CHAINS, &UP, &PASSES_A_FAILURE_ON);
+    plays(&rt, alloc, CHAINS, &UP, &RESTARTS);
 }

@@ -1,7 +1,7 @@
 //! A pseudowire over the network comes up and ends.
 
-use crate::network::plans::{LARGEST, PAIR};
 use crate::network::steps::{Step, plays};
+use crate::scenarios::{LARGEST, PAIR};
 
 // The Label Mapping of edge 0, and that of edge 1: each offers PW ID 100 under label 16, with control word, MTU 1500 and
 // status 0 (RFC 8077 sections 6 and 6.3.3).
@@ -88,10 +88,10 @@ const FAILS: [Step; 6] = [
 #[test]
 fn sets_pseudowires_up_and_ends_them(rt: HostRuntime) {
     let alloc = rt.alloc();
-    plays(&rt, alloc, &PAIR, &UP, &IS_UP);
-    plays(&rt, alloc, &PAIR, &UP, &WITHDRAWS);
-    plays(&rt, alloc, &LARGEST, &UP, &OUTLIVES_ITS_LABEL);
-    plays(&rt, alloc, &PAIR, &UP, &RESTARTS);
-    plays(&rt, alloc, &PAIR, &CUT, &COMES_UP_ANEW);
-    plays(&rt, alloc, &PAIR, &UP, &FAILS);
+    plays(&rt, alloc, PAIR, &UP, &IS_UP);
+    plays(&rt, alloc, PAIR, &UP, &WITHDRAWS);
+    plays(&rt, alloc, LARGEST, &UP, &OUTLIVES_ITS_LABEL);
+    plays(&rt, alloc, PAIR, &UP, &RESTARTS);
+    plays(&rt, alloc, PAIR, &CUT, &COMES_UP_ANEW);
+    plays(&rt, alloc, PAIR, &UP, &FAILS);
 }

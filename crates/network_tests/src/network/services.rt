@@ -1,7 +1,7 @@
 //! Frames of one edge, and when a service is calm.
 
-use crate::network::plans::{BRIDGE, PAIR};
 use crate::network::steps::{Step, plays};
+use crate::scenarios::{BRIDGE, PAIR};
 
 // A broadcast of 14 octets, and one octet less.
 const BROADCAST: &str = "ffffffffffffffffffffffffffff";
@@ -53,6 +53,6 @@ const IS_CALM_AND_IS_NOT: [Step; 24] = [
 #[test]
 fn bridges_frames_and_is_calm(rt: HostRuntime) {
     let alloc = rt.alloc();
-    plays(&rt, alloc, &BRIDGE, &[], &BRIDGES);
-    plays(&rt, alloc, &PAIR, &[], &IS_CALM_AND_IS_NOT);
+    plays(&rt, alloc, BRIDGE, &[], &BRIDGES);
+    plays(&rt, alloc, PAIR, &[], &IS_CALM_AND_IS_NOT);
 }

@@ -1,7 +1,7 @@
 //! Sessions over the network come up and end. The wire is off at both edges, so that nothing but sessions is told.
 
-use crate::network::plans::PAIR;
 use crate::network::steps::{Step, plays};
+use crate::scenarios::PAIR;
 
 // The Initialization of edge 0, and that of edge 1; and the KeepAlive that each puts next (RFC 5036 sections 3.5.3 and 3.5.4).
 const FIRST_OPENS: &str =
@@ -53,7 +53,7 @@ const RESTARTS: [Step; 6] = [
 #[test]
 fn sets_sessions_up_and_ends_them(rt: HostRuntime) {
     let alloc = rt.alloc();
-    plays(&rt, alloc, &PAIR, &OFF, &SETS_UP);
-    plays(&rt, alloc, &PAIR, &OFF, &LOSES);
-    plays(&rt, alloc, &PAIR, &OFF, &RESTARTS);
+    plays(&rt, alloc, PAIR, &OFF, &SETS_UP);
+    plays(&rt, alloc, PAIR, &OFF, &LOSES);
+    plays(&rt, alloc, PAIR, &OFF, &RESTARTS);
 }

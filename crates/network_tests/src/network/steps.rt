@@ -3,11 +3,11 @@ ghost use Rattle.std.specs.Prelude.{◌<◌, ◌≤◌, length, IfSome};
 ghost use Rattle.net_base.specs.plan.Planned.{IsEventOf, IsInPlan};
 
 use crate::network::lent_maps::have_all;
-use crate::network::plans::network_of;
 use crate::network::traces::{
     bound_label, hops_of, is_idle, kinds_of, mappings_of, next_label, says, ticks_of,
 };
 use crate::octets::octets_of;
+use crate::scenarios::plan_of;
 use net_base::{CircuitId, EdgeId, Event, List, Octets, ServiceId, Trace, WireId};
 use psn_net::Network;
 use std::alloc::Global;
@@ -20,6 +20,8 @@ pub enum Step {
     Connect(u16, u16),
     Deliver(u16, u16, u16),
     Lose(u16, u16),
+    /// An edge loses it, and its ends come up anew; all that is on its way is delivered before, and then.
+    Reconnect(u16, u16),
     /// An edge restarts, and time goes on.
     Restart(u16),
     Tick,
@@ -51,6 +53,8 @@ pub enum Step {
     Idle(bool),
     /// An edge has said so many Label Mappings to another one.
     Mappings(u16, u16, u32),
+    /// It says the Label Mapping with this number once so many ticks have passed, and not before.
+    Maps(u16, u16, u32, u32),
     /// The two ends of the first wire are bound to these labels, or to none for 0; an edge gives this label next.
     Bound(u32, u32),
     NextLabel(u16, u32),
@@ -182,6 +186,33 @@ fn passes(rt: &impl Abort, alloc: Global, network: &mut Network, count: u32) {
     }
 }
 
+// The connection of two edges is lost and comes up anew, and all that is on its way is delivered, before and then.
+fn reconnects(rt: &impl Abort, alloc: Global, network: &mut Network, me: u16, peer: u16) {
+    did_event(rt, alloc, network, Step::Lose(me, peer));
+    settle(rt, alloc, network);
+    did_event(rt, alloc, network, Step::Connect(me, peer));
+    settle(rt, alloc, network);
+}
+
+// So many ticks pass, and at the last of them an edge has said so many Label Mappings to another one, one more than before.
+fn maps(
+    rt: &impl Abort,
+    alloc: Global,
+    network: &mut Network,
+    (me, peer): (u16, u16),
+    ticks: u32,
+    count: u32,
+) {
+    passes(rt, alloc, network, ticks.saturating_sub(1));
+    let before = mappings_of(network.trace(), me, peer);
+    passes(rt, alloc, network, 1);
+    let after = mappings_of(network.trace(), me, peer);
+    assert!(rt;
+        before.saturating_add(1) == count && after == count,
+        "{before}, {after}"
+    );
+}
+
 // Whether an event is the arrival of a packet.
 fn is_arrival(event: &Event) -> bool {
     matches!(event, Event::Arrive { .. })
@@ -226,6 +257,8 @@ fn did(rt: &impl Abort, alloc: Global, network: &mut Network, step: Step) -> boo
         Step::Settle => settle(rt, alloc, network),
         Step::Flow(count) => flows(rt, alloc, network, count),
         Step::Ticks(count) => passes(rt, alloc, network, count),
+        Step::Reconnect(me, peer) => reconnects(rt, alloc, network, me, peer),
+        Step::Maps(me, peer, ticks, count) => { maps(rt, alloc, network, (me, peer), ticks, count) }
         _ => return did_event(rt, alloc, network, step),
     }
     true
@@ -321,7 +354,13 @@ pub fn play(rt: &impl Abort, alloc: Global, network: &mut Network, steps: &[Step
     }
 }
 
-/// The network of a scenario, given in pieces, does steps.
+/// The network of a scenario, which is given in pieces, before its first event.
+pub fn network_of(rt: &impl Abort, alloc: Global, pieces: &[&str]) -> Network {
+    let plan = plan_of(rt, alloc, pieces);
+    Network::open(alloc, &plan).expect(rt, "memory")
+}
+
+/// The network of a scenario, which is given in pieces, does steps.
 pub fn plays(rt: &impl Abort, alloc: Global, pieces: &[&str], begin: &[Step], steps: &[Step]) {
     let mut network = network_of(rt, alloc, pieces);
     play(rt, alloc, &mut network, begin);
