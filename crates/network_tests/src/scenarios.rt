@@ -18,7 +18,7 @@ pub const C: EdgeId = EdgeId(2);
 
 pub const X: EdgeId = EdgeId(3);
 
-// The first edge, also with one label left; and others behind it.
+// The first edge, also with one label left; and those behind it.
 const ONE: &str = r#"version = 1
 edge = [{ name = "a", address = "10.0.0.1" }, "#;
 
@@ -29,7 +29,9 @@ const AND_B: &str = r#"{ name = "b", address = "10.0.0.2" }, "#;
 
 const AND_C: &str = r#"{ name = "c", address = "10.0.0.3" }, "#;
 
-const AND_X: &str = r#"{ name = "x", address = "10.0.0.4" }, "#;
+const FOUR: &str = r#"version = 1
+edge = [{ name = "a", address = "10.0.0.1" }, { name = "b", address = "10.0.0.2" },
+{ name = "c", address = "10.0.0.3" }, { name = "x", address = "10.0.0.4" }, "#;
 
 const TO_Z: &str =
     r#"{ name = "y", address = "10.0.0.5" }, { name = "z", address = "10.0.0.6" }, "#;
@@ -111,18 +113,25 @@ const THREE_SERVICES: &str = r#"]
 service = [{ name = "s" }, { name = "t" }, { name = "r" }]
 "#;
 
+// Wires of the others, behind another wire.
+const AND_T: &str = r#" },
+{ name = "w1", service = "t", class = "mesh", path = ["a", "b"], pw_id = 101"#;
+
+const AND_R: &str = r#" },
+{ name = "w2", service = "r", class = "mesh", path = ["a", "b"], pw_id = 102"#;
+
+const AND_LONG_T: &str = r#" },
+{ name = "l", service = "t", class = "mesh", path = ["a", "b", "c"], pw_id = 101"#;
+
 /// Two edges and three wires between them, each of a service of its own.
 pub const THREE_WIRES: Pieces = &[
     ONE,
     AND_B,
     THREE_SERVICES,
-    r#"
-wire = [
-  { name = "w", service = "s", class = "mesh", path = ["a", "b"], pw_id = 100 },
-  { name = "w1", service = "t", class = "mesh", path = ["a", "b"], pw_id = 101 },
-  { name = "w2", service = "r", class = "mesh", path = ["a", "b"], pw_id = 102 },
-]
-"#,
+    WIRE,
+    AND_T,
+    AND_R,
+    OFFERS_NO_MORE,
 ];
 
 /// Three edges, a wire between the first two, and one over all three.
@@ -131,34 +140,28 @@ pub const SHORT_AND_LONG: Pieces = &[
     AND_B,
     AND_C,
     THREE_SERVICES,
-    r#"
-wire = [
-  { name = "w", service = "s", class = "mesh", path = ["a", "b"], pw_id = 100 },
-  { name = "l", service = "t", class = "mesh", path = ["a", "b", "c"], pw_id = 101 },
-]
-"#,
+    WIRE,
+    AND_LONG_T,
+    OFFERS_NO_MORE,
 ];
 
-/// Three core edges in full mesh, and a spoke edge that hangs on the first of them: there, wires 0 and 1 are the mesh wires to B
-/// and C, and wire 3 is the spoke from X.
-pub const HUB: Pieces = &[
-    ONE,
-    AND_B,
-    AND_C,
-    AND_X,
-    AGED,
-    CIRCUITS,
-    TO_CX,
-    END,
-    r#"
+// A wire of the first service, behind another one.
+const AND_A_TO_C: &str = r#" },
+{ name = "w1", service = "s", class = "mesh", path = ["a", "c"], pw_id = 101"#;
+
+// A full mesh of the first three edges, and a spoke from the fourth to the first.
+const HUB_WIRES: &str = r#"
 wire = [
   { name = "w", service = "s", class = "mesh", path = ["a", "b"], pw_id = 100 },
   { name = "w1", service = "s", class = "mesh", path = ["a", "c"], pw_id = 101 },
   { name = "w2", service = "s", class = "mesh", path = ["b", "c"], pw_id = 102 },
   { name = "w3", service = "s", class = "spoke", path = ["x", "a"], pw_id = 201 },
 ]
-"#,
-];
+"#;
+
+/// Three core edges in full mesh, and a spoke edge that hangs on the first of them: there, wires 0 and 1 are the mesh wires to B
+/// and C, and wire 3 is the spoke from X.
+pub const HUB: Pieces = &[FOUR, AGED, CIRCUITS, TO_CX, END, HUB_WIRES];
 
 /// Circuits 0, 1 and 2 of service 0 at the first edge, the last of them with VLAN ID 7; at the second edge circuit 3 of service 0
 /// and circuit 4 of service 1.
@@ -191,35 +194,36 @@ circuit = [
 "#,
 ];
 
+// Two circuits at the first edge.
+const BOTH_AT_A: &str = r#"
+circuit = [{ name = "c0", edge = "a", service = "s" }, { name = "c1", edge = "a", service = "s" }]
+"#;
+
 /// A core edge with two circuits, and its mesh wires to two others.
 pub const CORE: Pieces = &[
     ONE,
     AND_B,
     AND_C,
     SERVICE,
-    r#"
-circuit = [{ name = "c0", edge = "a", service = "s" }, { name = "c1", edge = "a", service = "s" }]
-wire = [
-  { name = "w", service = "s", class = "mesh", path = ["a", "b"], pw_id = 100 },
-  { name = "w1", service = "s", class = "mesh", path = ["a", "c"], pw_id = 101 },
-]
-"#,
+    BOTH_AT_A,
+    WIRE,
+    AND_A_TO_C,
+    OFFERS_NO_MORE,
 ];
 
-/// Wires from the first edge, which has four labels, to two others; their ends are of group 7.
-pub const TWO_WIRES: Pieces = &[
-    r#"version = 1
-edge = [{ name = "a", address = "10.0.0.1", first_label = 1048572 }, "#,
-    AND_B,
-    AND_C,
-    SERVICE,
-    r#"
+// The first edge with four labels, and wires between it and the two others.
+const FOUR_LABELS: &str = r#"version = 1
+edge = [{ name = "a", address = "10.0.0.1", first_label = 1048572 }, "#;
+
+const OF_GROUP_7: &str = r#"
 wire = [
   { name = "v", service = "s", class = "mesh", path = ["a", "b"], pw_id = 100, group = 7 },
   { name = "w", service = "s", class = "mesh", path = ["c", "a"], pw_id = 100, group = 7 },
 ]
-"#,
-];
+"#;
+
+/// Wires from the first edge, which has four labels, to two others; their ends are of group 7.
+pub const TWO_WIRES: Pieces = &[FOUR_LABELS, AND_B, AND_C, SERVICE, OF_GROUP_7];
 
 /// The pair, where the first edge has one label left.
 pub const LAST_LABEL: Pieces = &[LAST, AND_B, SERVICE, WIRE, OFFERS_NO_MORE];
@@ -242,26 +246,28 @@ const AND_C_FOR_64: &str = r#"{ name = "c", address = "10.0.0.3", keepalive = 64
 /// The same, where a session with the last edge expires after 64 ticks.
 pub const LAST_LABEL_AND_A_SHORT_SESSION: Pieces = &[LAST, AND_B, AND_C_FOR_64, TO_C_AND_B];
 
+// The seventh edge, and the wires of a network with switching points.
+const AND_P: &str = r#"{ name = "p", address = "10.0.0.7" }"#;
+
+const CHAIN_WIRES: &str = r#"
+wire = [
+  { name = "w0", service = "s", class = "mesh", path = ["a", "p", "y", "z", "b"], pw_id = 100 },
+  { name = "w1", service = "s", class = "spoke", path = ["c", "y", "z", "p", "a"], pw_id = 201 },
+  { name = "w2", service = "s", class = "spoke", path = ["x", "z", "y", "p", "b"], pw_id = 202 },
+]
+"#;
+
 /// Two core edges, two spoke edges and three switching points. The mesh wire between the core edges and the spokes to each of them pass
 /// all three switching points, each in an order of its own.
 pub const CHAINS: Pieces = &[
-    ONE,
-    AND_B,
-    AND_C,
-    AND_X,
+    FOUR,
     TO_Z,
-    r#"{ name = "e6", address = "10.0.0.7" }"#,
+    AND_P,
     SERVICE,
     CIRCUITS,
     TO_CX,
     END,
-    r#"
-wire = [
-  { name = "w0", service = "s", class = "mesh", path = ["a", "e6", "y", "z", "b"], pw_id = 100 },
-  { name = "w1", service = "s", class = "spoke", path = ["c", "y", "z", "e6", "a"], pw_id = 201 },
-  { name = "w2", service = "s", class = "spoke", path = ["x", "z", "y", "e6", "b"], pw_id = 202 },
-]
-"#,
+    CHAIN_WIRES,
 ];
 
 // A full mesh of the first four of six edges with a circuit each, and a spoke from each of the others.
@@ -283,15 +289,10 @@ const SECOND_SPOKE: &str = r#"
 "#;
 
 /// A hierarchy of four core edges and two spoke edges, with a spoke each; and where the first of these has two.
-pub const HIERARCHY: Pieces = &[
-    ONE, AND_B, AND_C, AND_X, TO_Z, SERVICE, CIRCUITS, TO_CX, TO_CZ, END, MESH, END,
-];
+pub const HIERARCHY: Pieces = &[FOUR, TO_Z, SERVICE, CIRCUITS, TO_CX, TO_CZ, END, MESH, END];
 
 pub const TWO_SPOKES: Pieces = &[
-    ONE,
-    AND_B,
-    AND_C,
-    AND_X,
+    FOUR,
     TO_Z,
     SERVICE,
     CIRCUITS,

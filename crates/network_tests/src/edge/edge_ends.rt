@@ -3,7 +3,7 @@ ghost use Rattle.std.specs.Prelude.{◌≡◌, ◌≤◌, [], None};
 ghost use Rattle.net_base.specs.plan.Accepted.{IsChecked};
 
 use crate::scenarios::{A, B, C, PATH, TWO_WIRES, plan_of};
-use net_base::{EdgeId, Label, Offer, Plan, Text, WireId};
+use net_base::{EdgeId, Label, Offer, Plan, WireId};
 use pw_ends::PwEnds;
 use pw_messages::content_of;
 use pw_signalling::{Binding, PwEnd, Told};
@@ -19,27 +19,16 @@ fn ends_of(rt: &impl Abort, alloc: Global, plan: &Plan) -> PwEnds
     PwEnds::open(alloc, plan, A).expect(rt, "memory")
 }
 
-// The ends of the first edge.
-fn opened(rt: &impl Abort, alloc: Global) -> PwEnds {
-    let plan = plan_of(rt, alloc, TWO_WIRES);
-    ends_of(rt, alloc, &plan)
-}
-
-// What an end of group 7 tells.
-fn told(rt: &impl Abort, status: Option<PwStatus>) -> Told
+// What an end tells by the offer of the first wire, which is of group 7.
+fn told(rt: &impl Abort, plan: &Plan, status: Option<PwStatus>) -> Told
     ensures kind { result.kind ≤ 0x7FFF }
     ensures vlan { result.vlan ≡ None }
     ensures points { result.points ≡ [] }
 {
+    let wire = plan.wires.get(0).expect(rt, "a wire");
     let offer = Offer {
-        tagged: false,
-        cword: true,
-        mtu: Some(1500),
         vlan: None,
-        vccv: None,
-        status: true,
-        group: 7,
-        description: Text::read([].as_slice()).expect(rt, "a text"),
+        ..wire.near
     };
     content_of(&offer, status)
 }
@@ -124,15 +113,15 @@ fn advertises(rt: &impl Abort, ends: &mut PwEnds, slot: usize, told: &Told, numb
 }
 
 // Both ends advertise, with the first two of the edge's four labels.
-fn advertise(rt: &impl Abort, ends: &mut PwEnds) {
-    let told = told(rt, Some(PwStatus(0)));
+fn advertise(rt: &impl Abort, plan: &Plan, ends: &mut PwEnds) {
+    let told = told(rt, plan, Some(PwStatus(0)));
     advertises(rt, ends, 0, &told, 1_048_572);
     advertises(rt, ends, 1, &told, 1_048_573);
 }
 
 // Both ends own their labels, until the connection is lost and the edge restarts.
-fn own_labels(rt: &impl Abort, ends: &mut PwEnds) {
-    advertise(rt, ends);
+fn own_labels(rt: &impl Abort, plan: &Plan, ends: &mut PwEnds) {
+    advertise(rt, plan, ends);
     ends.lose(B);
     assert!(rt; is_fresh(ends, 0));
     is_owned(rt, ends, 1_048_572, None);
@@ -143,8 +132,8 @@ fn own_labels(rt: &impl Abort, ends: &mut PwEnds) {
 }
 
 // Both ends advertise, until one withdraws.
-fn advertise_until_one_withdraws(rt: &impl Abort, ends: &mut PwEnds) {
-    advertise(rt, ends);
+fn advertise_until_one_withdraws(rt: &impl Abort, plan: &Plan, ends: &mut PwEnds) {
+    advertise(rt, plan, ends);
     is_advertised(rt, ends, 1_048_573, Some(1));
     assert!(rt; ends.len() == 2);
     ends.withdraw(1);
@@ -153,8 +142,8 @@ fn advertise_until_one_withdraws(rt: &impl Abort, ends: &mut PwEnds) {
 }
 
 // The first end has no label to advertise once the edge has given its four.
-fn end_with_the_labels(rt: &impl Abort, ends: &mut PwEnds) {
-    let told = told(rt, None);
+fn end_with_the_labels(rt: &impl Abort, plan: &Plan, ends: &mut PwEnds) {
+    let told = told(rt, plan, None);
     for number in 1_048_572..1_048_576 {
         advertises(rt, ends, 0, &told, number);
         ends.lose(B);
@@ -172,8 +161,8 @@ fn tick_often(ends: &mut PwEnds, ticks: u16) {
 
 // The four labels that the first end has left wait for its peer, however many ticks pass. They rest from the next connection with it on,
 // and after 64 ticks the least one is given again.
-fn give_a_label_again(rt: &impl Abort, ends: &mut PwEnds) {
-    end_with_the_labels(rt, ends);
+fn give_a_label_again(rt: &impl Abort, plan: &Plan, ends: &mut PwEnds) {
+    end_with_the_labels(rt, plan, ends);
     tick_often(ends, 64);
     ends.met(C);
     tick_often(ends, 64);
@@ -183,15 +172,15 @@ fn give_a_label_again(rt: &impl Abort, ends: &mut PwEnds) {
     assert!(rt; !ends.has_label());
     ends.tick();
     assert!(rt; ends.has_label());
-    advertises(rt, ends, 0, &told(rt, None), 1_048_572);
+    advertises(rt, ends, 0, &told(rt, plan, None), 1_048_572);
     is_owned(rt, ends, 1_048_572, Some(0));
 }
 
 // The end of a slot hears a mapping of label 17.
-fn binds(rt: &impl Abort, ends: &mut PwEnds, slot: usize) {
+fn binds(rt: &impl Abort, plan: &Plan, ends: &mut PwEnds, slot: usize) {
     assert!(rt; slot < ends.len());
     let label = Label::new(17).expect(rt, "a label");
-    let told = told(rt, None);
+    let told = told(rt, plan, None);
     ends.on_mapping(slot, &Binding { label, told });
 }
 
@@ -201,9 +190,9 @@ fn is_bound(ends: &PwEnds, slot: usize) -> bool {
 }
 
 // The first end holds its binding where the second one's peer withdraws their group.
-fn hold_a_binding(rt: &impl Abort, ends: &mut PwEnds) {
-    binds(rt, ends, 0);
-    binds(rt, ends, 1);
+fn hold_a_binding(rt: &impl Abort, plan: &Plan, ends: &mut PwEnds) {
+    binds(rt, plan, ends, 0);
+    binds(rt, plan, ends, 1);
     ends.on_group_withdraw(C, 7);
     assert!(rt; is_bound(ends, 0));
     assert!(rt; !is_bound(ends, 1));
@@ -220,28 +209,44 @@ enum Deed {
     HoldABinding,
 }
 
-// The ends of the first edge are opened, and do a deed.
-fn opened_do(rt: &impl Abort, alloc: Global, deed: Deed) {
-    let mut ends = opened(rt, alloc);
+// The ends of the first edge of a plan are opened, and do a deed.
+fn opened_do(rt: &impl Abort, alloc: Global, plan: &Plan, deed: Deed)
+    requires { IsChecked plan.now }
+{
+    let mut ends = ends_of(rt, alloc, plan);
     match deed {
         Deed::Stand => stand(rt, &ends),
-        Deed::OwnLabels => own_labels(rt, &mut ends),
-        Deed::AdvertiseUntilOneWithdraws => advertise_until_one_withdraws(rt, &mut ends),
-        Deed::EndWithTheLabels => end_with_the_labels(rt, &mut ends),
-        Deed::GiveALabelAgain => give_a_label_again(rt, &mut ends),
-        Deed::HoldABinding => hold_a_binding(rt, &mut ends),
+        Deed::OwnLabels => own_labels(rt, plan, &mut ends),
+        Deed::AdvertiseUntilOneWithdraws => advertise_until_one_withdraws(rt, plan, &mut ends),
+        Deed::EndWithTheLabels => end_with_the_labels(rt, plan, &mut ends),
+        Deed::GiveALabelAgain => give_a_label_again(rt, plan, &mut ends),
+        Deed::HoldABinding => hold_a_binding(rt, plan, &mut ends),
     }
     drop(ends);
 }
 
+const DEEDS: [Deed; 6] = [
+    Deed::Stand,
+    Deed::OwnLabels,
+    Deed::AdvertiseUntilOneWithdraws,
+    Deed::EndWithTheLabels,
+    Deed::GiveALabelAgain,
+    Deed::HoldABinding,
+];
+
+// The ends of the first edge of a plan do each deed, once they are opened.
+fn do_all(rt: &impl Abort, alloc: Global, plan: &Plan)
+    requires { IsChecked plan.now }
+{
+    for deed in DEEDS.iter() {
+        opened_do(rt, alloc, plan, *deed);
+    }
+}
+
 #[test]
 fn ends_stand_advertise_and_bind(rt: HostRuntime) {
-    let alloc = rt.alloc();
-    opened_do(&rt, alloc, Deed::Stand);
-    opened_do(&rt, alloc, Deed::OwnLabels);
-    opened_do(&rt, alloc, Deed::AdvertiseUntilOneWithdraws);
-    opened_do(&rt, alloc, Deed::EndWithTheLabels);
-    opened_do(&rt, alloc, Deed::GiveALabelAgain);
-    opened_do(&rt, alloc, Deed::HoldABinding);
-    switches(&rt, alloc);
+    let plan = plan_of(&rt, rt.alloc(), TWO_WIRES);
+    do_all(&rt, rt.alloc(), &plan);
+    drop(plan);
+    switches(&rt, rt.alloc());
 }
