@@ -313,19 +313,12 @@ fn joined(rt: &impl Abort, alloc: Global, pieces: &[&str]) -> String {
     text
 }
 
-// The plan of the scenario of a text.
-fn plan_in(rt: &impl Abort, alloc: Global, text: &str) -> Plan
-    ensures { IsChecked result }
-{
-    read_scenario(alloc, text.as_bytes())
-        .expect(rt, "a scenario")
-        .plan
-}
-
 /// The plan of a scenario, which is given in pieces.
 pub fn plan_of(rt: &impl Abort, alloc: Global, pieces: &[&str]) -> Plan
     ensures { IsChecked result }
 {
     let text = joined(rt, alloc, pieces);
-    plan_in(rt, alloc, text.as_str())
+    read_scenario(alloc, text.as_bytes())
+        .expect(rt, "a scenario")
+        .plan
 }

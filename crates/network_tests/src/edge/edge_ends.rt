@@ -71,13 +71,6 @@ const SLOTS: [(EdgeId, u32, Option<usize>); 4] = [
     (A, 100, None),
 ];
 
-// Each end is found by its peer and its PW ID.
-fn are_found(rt: &impl Abort, ends: &PwEnds) {
-    for (peer, pw_id, slot) in SLOTS.as_slice() {
-        assert!(rt; ends.find(*peer, *pw_id) == *slot);
-    }
-}
-
 // Whether wire 1 passes the edge, wire 0 ends there, and wire 2 does not pass it.
 fn knows_wires(ends: &PwEnds) -> bool {
     ends.passes(WireId(1)) && ends.ends_here(WireId(0)) && !ends.passes(WireId(2))
@@ -87,22 +80,19 @@ fn knows_wires(ends: &PwEnds) -> bool {
 fn stand(rt: &impl Abort, ends: &PwEnds) {
     assert!(rt; ends.len() == 2);
     assert!(rt; is_fresh(ends, 0) && is_fresh(ends, 1));
-    are_found(rt, ends);
+    for (peer, pw_id, slot) in SLOTS.as_slice() {
+        assert!(rt; ends.find(*peer, *pw_id) == *slot);
+    }
     assert!(rt; knows_wires(ends));
 }
 
-// Both ends of wire 0 are in the slots of the edge, and wire 1 has none.
-fn knows_slots(ends: &PwEnds) -> bool {
-    let (first, past) = ends.slots_of(WireId(1));
-    ends.slots_of(WireId(0)) == (0, 2) && past <= first
-}
-
-// The switching point of a wire has its two ends.
+// The switching point of a wire has its two ends: both ends of wire 0 are in the slots of the edge, and wire 1 has none.
 fn switches(rt: &impl Abort, alloc: Global) {
     let plan = plan_of(rt, alloc, PATH);
     assert!(rt; plan.edges.len() == 3);
     let ends = PwEnds::open(alloc, &plan, B).expect(rt, "memory");
-    assert!(rt; knows_slots(&ends));
+    let (first, past) = ends.slots_of(WireId(1));
+    assert!(rt; ends.slots_of(WireId(0)) == (0, 2) && past <= first);
 }
 
 // The idle end of a slot advertises with the label of this number, or with none where it is 0.

@@ -140,8 +140,16 @@ fn do_step(rt: &impl Abort, alloc: Global, a: &mut End, b: &mut End, step: &str)
     match first.as_bytes() {
         b"A" => end_does(rt, alloc, a, b, more),
         b"B" => end_does(rt, alloc, b, a, more),
-        b"connect" => connect(rt, alloc, a, b),
-        b"lose" => lose(rt, a, b),
+        b"connect" => {
+            connected(rt, alloc, a, B).expect(rt, "connected");
+            connected(rt, alloc, b, A).expect(rt, "connected");
+        }
+        b"lose" => {
+            lost(rt, a, B);
+            lost(rt, b, A);
+            forget(rt, a);
+            forget(rt, b);
+        }
         b"settle" => settle(rt, alloc, a, b, number(rt, more)),
         _ => assert!(rt; first.is_empty(), "{step}"),
     }
@@ -159,20 +167,6 @@ fn end_does(rt: &impl Abort, alloc: Global, end: &mut End, other: &mut End, word
         b"standby" => set_twice(rt, alloc, end, Wish::Standby),
         _ => assert!(rt; false, "{words}"),
     }
-}
-
-// Both are connected, the first one first.
-fn connect(rt: &impl Abort, alloc: Global, a: &mut End, b: &mut End) {
-    connected(rt, alloc, a, B).expect(rt, "connected");
-    connected(rt, alloc, b, A).expect(rt, "connected");
-}
-
-// Both lose the connection, and all that is on its way is lost.
-fn lose(rt: &impl Abort, a: &mut End, b: &mut End) {
-    lost(rt, a, B);
-    lost(rt, b, A);
-    forget(rt, a);
-    forget(rt, b);
 }
 
 // The wire is called something else; the second time that is no change.

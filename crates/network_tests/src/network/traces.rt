@@ -5,25 +5,32 @@ use psn_net::Network;
 use std::alloc::Global;
 use std::process::Abort;
 
-// A letter for a state of a session.
-fn letter_of(state: StateName) -> char {
-    match state {
-        StateName::Initialized => '0',
-        StateName::OpenSent => '1',
-        StateName::OpenRec => '2',
-        StateName::Operational => '3',
-        StateName::Ended(Reason::Closed) => 'c',
-        _ => '?',
-    }
-}
-
-// A letter for the kind of an entry.
+// A letter for the kind of an entry; of a session that is told, for its state.
 fn kind_of(entry: &Entry) -> char {
     match entry {
         Entry::Did { .. } => '>',
         Entry::Idle => 'i',
         Entry::Said { .. } => 's',
-        Entry::Session { state, .. } => letter_of(*state),
+        Entry::Session {
+            state: StateName::Initialized,
+            ..
+        } => '0',
+        Entry::Session {
+            state: StateName::OpenSent,
+            ..
+        } => '1',
+        Entry::Session {
+            state: StateName::OpenRec,
+            ..
+        } => '2',
+        Entry::Session {
+            state: StateName::Operational,
+            ..
+        } => '3',
+        Entry::Session {
+            state: StateName::Ended(Reason::Closed),
+            ..
+        } => 'c',
         Entry::In { .. } => 'n',
         Entry::Left { .. } => 'l',
         Entry::Dropped { .. } => 'd',
@@ -51,20 +58,15 @@ pub fn says(trace: &Trace, place: usize, edge: u16, octets: &[u8]) -> bool {
     }
 }
 
-// Whether these octets are a PDU that begins with a Label Mapping: its type stands behind the ten octets of the PDU header (RFC 5036
-// section 3.5.7).
-fn is_mapping(octets: &[u8]) -> bool {
-    matches!(octets.split_at_checked(10), Some((_, [0x04, 0x00, ..])))
-}
-
-/// How many Label Mappings an edge has said to another one, each in a PDU of its own.
+/// How many Label Mappings an edge has said to another one, each in a PDU of its own: its type stands behind the ten octets of the PDU
+/// header (RFC 5036 section 3.5.7).
 pub fn mappings_of(trace: &Trace, me: u16, peer: u16) -> u32 {
     let mut count: u32 = 0;
     for entry in trace.as_slice() {
         if let Entry::Said { from, to, bytes } = entry
             && from.0 == me
             && to.0 == peer
-            && is_mapping(bytes.as_slice())
+            && let Some((_, [0x04, 0x00, ..])) = bytes.as_slice().split_at_checked(10)
         {
             count = count.saturating_add(1);
         }
