@@ -53,7 +53,40 @@ pub enum Taken {
     Ends(&'static str, &'static str),
     /// So many octets, and what ends with this text.
     Long(usize, &'static str),
+    /// These lines, which ` / ` parts.
+    Lines(&'static str),
 }
+
+/// What stands in a row of a table, and else in the case: the words of the call, what the file has, and how the call ends.
+#[derive(Clone, Copy)]
+struct Row {
+    words: &'static str,
+    front: &'static str,
+    status: u8,
+    taken: Taken,
+    told: &'static str,
+}
+
+/// One edge and three circuits of a service.
+pub const ONE_EDGE: &str = "
+[[edge]]
+name = \"e\"
+address = \"10.0.0.1\"
+[[service]]
+name = \"s\"
+[[circuit]]
+name = \"c1\"
+edge = \"e\"
+service = \"s\"
+[[circuit]]
+name = \"c2\"
+edge = \"e\"
+service = \"s\"
+[[circuit]]
+name = \"c3\"
+edge = \"e\"
+service = \"s\"
+";
 
 /// A replay of no events, in a sound surrounding, that is done.
 pub const REPLAY: Case = Case {
@@ -171,10 +204,10 @@ fn put_pieces(rt: &impl Abort, octets: &mut Vec<u8>, case: &Case) {
 }
 
 // The octets of the file.
-fn file_of(rt: &impl Abort, alloc: Global, case: &Case) -> Vec<u8> {
+fn file_of(rt: &impl Abort, alloc: Global, case: &Case, front: &str) -> Vec<u8> {
     let mut octets = Vec::new(alloc);
     put(rt, &mut octets, case, case.opening);
-    put(rt, &mut octets, case, case.front);
+    put(rt, &mut octets, case, front);
     put_pieces(rt, &mut octets, case);
     put(rt, &mut octets, case, case.back);
     put(rt, &mut octets, case, case.closing);
@@ -184,24 +217,18 @@ fn file_of(rt: &impl Abort, alloc: Global, case: &Case) -> Vec<u8> {
     octets
 }
 
-// The octets of pairs of hexadecimal digits.
-fn octets_of(rt: &impl Abort, alloc: Global, text: &str) -> Vec<u8> {
-    let mut octets = Vec::new(alloc);
-    put_octets(rt, &mut octets, text);
-    octets
-}
-
 // Lets a shelf hold the octets of pairs of hexadecimal digits.
 fn hold(rt: &impl Abort, alloc: Global, shelf: &mut MemShelf, name: &str, text: &str) {
-    let octets = octets_of(rt, alloc, text);
+    let mut octets = Vec::new(alloc);
+    put_octets(rt, &mut octets, text);
     shelf
         .store(alloc, name, octets.as_slice())
         .expect(rt, "memory");
 }
 
 // The shelf that holds the file, the others and the second one.
-fn case_shelf(rt: &impl Abort, alloc: Global, case: &Case) -> MemShelf {
-    let octets = file_of(rt, alloc, case);
+fn case_shelf(rt: &impl Abort, alloc: Global, case: &Case, front: &str) -> MemShelf {
+    let octets = file_of(rt, alloc, case, front);
     let mut shelf = shelf_of(rt, alloc, octets.as_slice(), case.shelf_fails);
     for (name, text) in case.others {
         hold(rt, alloc, &mut shelf, name, text);
@@ -215,9 +242,9 @@ fn case_shelf(rt: &impl Abort, alloc: Global, case: &Case) -> MemShelf {
 }
 
 // Runs the words over the shelf and this sink.
-fn finish_of(rt: &impl Abort, alloc: Global, case: &Case, sink: &mut MemSink) -> Finish {
-    let mut shelf = case_shelf(rt, alloc, case);
-    let words = words_of(rt, alloc, case.words);
+fn finish_of(rt: &impl Abort, alloc: Global, case: &Case, row: &Row, sink: &mut MemSink) -> Finish {
+    let mut shelf = case_shelf(rt, alloc, case, row.front);
+    let words = words_of(rt, alloc, row.words);
     let finish = run(alloc, words.as_slice(), &mut shelf, sink);
     drop(words);
     drop(shelf);
@@ -251,6 +278,25 @@ fn digit(value: u8) -> u8 {
     }
 }
 
+// What stands behind a line and its end, where octets begin with them.
+fn behind_line<'a>(octets: &'a [u8], line: &str) -> Option<&'a [u8]> {
+    octets
+        .strip_prefix(line.as_bytes())?
+        .strip_prefix(b"\n".as_slice())
+}
+
+// Whether octets are these lines.
+fn are_lines(octets: &[u8], lines: &str) -> bool {
+    let mut rest = octets;
+    for line in lines.split(" / ") {
+        match behind_line(rest, line) {
+            Some(more) => rest = more,
+            None => return false,
+        }
+    }
+    rest.is_empty()
+}
+
 // Whether the sink took what it has to take.
 fn is_taken(octets: &[u8], taken: Taken) -> bool {
     match taken {
@@ -259,6 +305,7 @@ fn is_taken(octets: &[u8], taken: Taken) -> bool {
         Taken::Front(text, count) => octets.len() == count && text.as_bytes().starts_with(octets),
         Taken::Ends(front, back) => ends_with(octets, front, back),
         Taken::Long(count, back) => octets.len() == count && octets.ends_with(back.as_bytes()),
+        Taken::Lines(lines) => are_lines(octets, lines),
     }
 }
 
@@ -277,11 +324,6 @@ fn is_told(rt: &impl Abort, alloc: Global, outcome: &Outcome, told: &str) -> boo
     line.as_slice() == told.as_bytes()
 }
 
-// Whether an outcome is that of a call without a line exactly where there is none.
-fn is_kind(outcome: &Outcome, told: &str) -> bool {
-    matches!(outcome, Outcome::Done) == told.is_empty()
-}
-
 // Whether there are so many entries, where that is told.
 fn is_count(entries: usize, told: Option<usize>) -> bool {
     match told {
@@ -290,28 +332,25 @@ fn is_count(entries: usize, told: Option<usize>) -> bool {
     }
 }
 
-// What of the status, the entries, the outcome and the sink is not as the case has it; empty where all is. The sink counts a
-// fault exactly where the writing failed.
+// What of the status, the outcome and the sink is not as the row has it; empty where all is. The sink counts a fault exactly where the
+// writing failed.
 fn difference(
     rt: &impl Abort,
     alloc: Global,
-    case: &Case,
-    taken: Taken,
-    (status, entries): (u8, usize),
+    row: &Row,
+    status: u8,
     outcome: &Outcome,
     sink: &MemSink,
 ) -> &'static str {
-    if status != case.status {
+    if status != row.status {
         "status"
-    } else if !is_count(entries, case.entries) {
-        "entries"
-    } else if !is_taken(sink.taken(), taken) {
+    } else if !is_taken(sink.taken(), row.taken) {
         "taken"
-    } else if !is_kind(outcome, case.told) {
+    } else if matches!(outcome, Outcome::Done) != row.told.is_empty() {
         "kind"
-    } else if !is_told(rt, alloc, outcome, case.told) {
+    } else if !is_told(rt, alloc, outcome, row.told) {
         "told"
-    } else if sink.faults() != u64::from(case.status == 4) {
+    } else if sink.faults() != u64::from(row.status == 4) {
         "faults"
     } else {
         ""
@@ -332,27 +371,47 @@ fn let_go(finish: Finish) {
     }
 }
 
-// What is not as the case has it where the call ends, with this sink, which has to take this.
+// What is not as the case and the row have it where the call ends, with this sink.
 fn difference_with(
     rt: &impl Abort,
     alloc: Global,
     case: &Case,
-    taken: Taken,
+    row: &Row,
     sink: &mut MemSink,
 ) -> &'static str {
-    let finish = finish_of(rt, alloc, case, sink);
-    let counts = (finish.status, finish.trace().len());
-    let difference = difference(rt, alloc, case, taken, counts, &finish.outcome, sink);
+    let finish = finish_of(rt, alloc, case, row, sink);
+    let difference = if is_count(finish.trace().len(), case.entries) {
+        difference(rt, alloc, row, finish.status, &finish.outcome, sink)
+    } else {
+        "entries"
+    };
     let_go(finish);
     difference
 }
 
+// The call of a row ends as it has to, where the sink has this room.
+fn row_plays(rt: &impl Abort, alloc: Global, case: &Case, room: usize, row: &Row) {
+    let mut sink = sink_of(rt, alloc, room, case.sink_fails);
+    let difference = difference_with(rt, alloc, case, row, &mut sink);
+    drop(sink);
+    assert!(rt;
+        difference.is_empty(),
+        "{difference}: {}: {}",
+        row.words,
+        row.front
+    );
+}
+
 /// The call ends as it has to, where the sink has this room and has to take this.
 pub fn plays_in(rt: &impl Abort, alloc: Global, case: &Case, room: usize, taken: Taken) {
-    let mut sink = sink_of(rt, alloc, room, case.sink_fails);
-    let difference = difference_with(rt, alloc, case, taken, &mut sink);
-    drop(sink);
-    assert!(rt; difference.is_empty(), "{difference}: {}", case.front);
+    let row = Row {
+        words: case.words,
+        front: case.front,
+        status: case.status,
+        taken,
+        told: case.told,
+    };
+    row_plays(rt, alloc, case, room, &row);
 }
 
 /// The call ends as it has to.
@@ -364,5 +423,53 @@ pub fn plays(rt: &impl Abort, alloc: Global, case: &Case) {
 pub fn all_play(rt: &impl Abort, alloc: Global, cases: &[Case]) {
     for case in cases {
         plays(rt, alloc, case);
+    }
+}
+
+// The status and the line on standard error of these words; of none, those of a call that is done.
+fn ending_in(rt: &impl Abort, words: &'static str) -> (u8, &'static str) {
+    match words.split_once(' ') {
+        Some((status, told)) => (status.parse::<u8>().ok().expect(rt, "a status"), told),
+        None => (0, ""),
+    }
+}
+
+// The row whose call and ending are these words.
+fn row_in(rt: &impl Abort, case: &Case, call: &'static str, ending: &'static str) -> Row {
+    let (words, front) = match call.strip_prefix("$ ") {
+        Some(words) => (words, case.front),
+        None => (case.words, call),
+    };
+    let (lines, end) = match ending.split_once("! ") {
+        Some(parts) => parts,
+        None => (ending, ""),
+    };
+    let (status, told) = ending_in(rt, end);
+    let taken = match lines.trim() {
+        "" => Taken::Whole(""),
+        lines => Taken::Lines(lines),
+    };
+    Row {
+        words,
+        front,
+        status,
+        taken,
+        told,
+    }
+}
+
+/// Each call of a table ends as it has to. A row has what stands in the place of the front of a case or, behind `$ `, of its words; then,
+/// behind ` -> `, the lines that the sink takes, which ` / ` parts, and behind `! ` the status and the line on standard error. Lines that
+/// end in a full stop are words for a reader.
+pub fn rows_play(rt: &impl Abort, alloc: Global, case: &Case, table: &'static str) {
+    for line in table.lines() {
+        let line = line.trim();
+        match line.split_once(" -> ") {
+            Some((call, ending)) => {
+                let row = row_in(rt, case, call, ending);
+                row_plays(rt, alloc, case, case.room, &row);
+            }
+            None => assert!(rt; line.is_empty() || line.ends_with('.'), "{line}"),
+        }
     }
 }

@@ -1,6 +1,6 @@
 //! The command `audit`: reports in which one thing is wrong each, and what is refused before.
 
-use crate::around::{Case, REPLAY, Taken, all_play, plays};
+use crate::around::{Case, REPLAY, Taken, all_play, plays, rows_play};
 
 // An edge with two circuits of one service and one of another.
 const PLAN: &str = "edge = [{ name = \"a\", address = \"10.0.0.1\" }]
@@ -258,26 +258,11 @@ end events=2 in=1 left=2 sent=0 dropped=0
     },
 ];
 
-static USAGES: [Case; 3] = [
-    Case {
-        words: "audit f",
-        status: 2,
-        told: "vplsnet: usage",
-        ..REFUSED
-    },
-    Case {
-        words: "audit f s s",
-        status: 2,
-        told: "vplsnet: usage",
-        ..REFUSED
-    },
-    Case {
-        words: "audit f -s",
-        status: 2,
-        told: "vplsnet: usage",
-        ..REFUSED
-    },
-];
+const USAGE_ROWS: &str = "
+    $ audit f -> ! 2 vplsnet: usage
+    $ audit f s s -> ! 2 vplsnet: usage
+    $ audit f -s -> ! 2 vplsnet: usage
+";
 
 // The scenario is read first, and refused before the report is read or judged.
 static BEFORE: [Case; 4] = [
@@ -373,6 +358,8 @@ static LONG_REPORT: Case = Case {
     ..LONG
 };
 
+static REFUSAL: Case = REFUSED;
+
 #[test]
 fn says_yes_to_good_reports(rt: HostRuntime) {
     all_play(&rt, rt.alloc(), GOOD.as_slice());
@@ -387,7 +374,7 @@ fn tells_the_first_rule_that_fails(rt: HostRuntime) {
 #[test]
 fn judges_nothing_else(rt: HostRuntime) {
     let alloc = rt.alloc();
-    all_play(&rt, alloc, USAGES.as_slice());
+    rows_play(&rt, alloc, &REFUSAL, USAGE_ROWS);
     all_play(&rt, alloc, BEFORE.as_slice());
     all_play(&rt, alloc, FAILED.as_slice());
     plays(&rt, alloc, &LONG_SCENARIO);

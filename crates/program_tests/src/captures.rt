@@ -1,27 +1,6 @@
 //! Captures that are played: what is refused of them, and at which place, and what enters of the others.
 
-use crate::around::{Case, REPLAY, Taken, all_play, plays};
-
-// One edge and three circuits of a service.
-const TABLES: &str = "
-[[edge]]
-name = \"e\"
-address = \"10.0.0.1\"
-[[service]]
-name = \"s\"
-[[circuit]]
-name = \"c1\"
-edge = \"e\"
-service = \"s\"
-[[circuit]]
-name = \"c2\"
-edge = \"e\"
-service = \"s\"
-[[circuit]]
-name = \"c3\"
-edge = \"e\"
-service = \"s\"
-";
+use crate::around::{Case, ONE_EDGE, REPLAY, Taken, all_play, plays};
 
 // The frame of the broadcast, in a capture of its own.
 const GOOD: &str =
@@ -55,7 +34,7 @@ const PLAY: Case = Case {
     opening: "version = 1\nevents = [",
     front: "\"play c1 k.pcap\"",
     closing: "]\n",
-    tables: TABLES,
+    tables: ONE_EDGE,
     ..REPLAY
 };
 

@@ -1,27 +1,6 @@
 //! What the commands beside `replay` write of a run, and what is written where a limit or a fault ends it.
 
-use crate::around::{Case, REPLAY, Taken, all_play, plays};
-
-// One edge and three circuits of a service.
-const ONE: &str = "
-[[edge]]
-name = \"e\"
-address = \"10.0.0.1\"
-[[service]]
-name = \"s\"
-[[circuit]]
-name = \"c1\"
-edge = \"e\"
-service = \"s\"
-[[circuit]]
-name = \"c2\"
-edge = \"e\"
-service = \"s\"
-[[circuit]]
-name = \"c3\"
-edge = \"e\"
-service = \"s\"
-";
+use crate::around::{Case, ONE_EDGE, REPLAY, Taken, all_play, plays, rows_play};
 
 // Two edges, a mesh wire and a circuit at each.
 const TWO: &str = "
@@ -115,7 +94,7 @@ end w 2 c 16 16 up
 const CAPTURE: Case = Case {
     words: "capture f c2",
     front: BROADCAST,
-    tables: ONE,
+    tables: ONE_EDGE,
     taken: Taken::Octets(LEFT),
     ..REPLAY
 };
@@ -164,57 +143,27 @@ static WRITTEN: [Case; 7] = [
 ];
 
 // Words that are no row of the table.
-const USAGE: Case = Case {
+static USAGE: Case = Case {
     front: BROADCAST,
-    tables: ONE,
+    tables: ONE_EDGE,
     status: 2,
     entries: Some(0),
     told: "vplsnet: usage",
     ..REPLAY
 };
 
-static USAGES: [Case; 10] = [
-    Case {
-        words: "tables",
-        ..USAGE
-    },
-    Case {
-        words: "tables f c1",
-        ..USAGE
-    },
-    Case {
-        words: "tables -f",
-        ..USAGE
-    },
-    Case {
-        words: "capture f",
-        ..USAGE
-    },
-    Case {
-        words: "capture f -c1",
-        ..USAGE
-    },
-    Case {
-        words: "capture f c1 c2",
-        ..USAGE
-    },
-    Case {
-        words: "rehearse",
-        ..USAGE
-    },
-    Case {
-        words: "rehearse 01",
-        ..USAGE
-    },
-    Case {
-        words: "rehearse 18446744073709551616",
-        ..USAGE
-    },
-    Case {
-        words: "rehearse x",
-        ..USAGE
-    },
-];
+const USAGE_ROWS: &str = "
+    $ tables -> ! 2 vplsnet: usage
+    $ tables f c1 -> ! 2 vplsnet: usage
+    $ tables -f -> ! 2 vplsnet: usage
+    $ capture f -> ! 2 vplsnet: usage
+    $ capture f -c1 -> ! 2 vplsnet: usage
+    $ capture f c1 c2 -> ! 2 vplsnet: usage
+    $ rehearse -> ! 2 vplsnet: usage
+    $ rehearse 01 -> ! 2 vplsnet: usage
+    $ rehearse 18446744073709551616 -> ! 2 vplsnet: usage
+    $ rehearse x -> ! 2 vplsnet: usage
+";
 
 // A circuit that is not there, behind the scenario's own fault.
 static NO_CIRCUITS: [Case; 3] = [
@@ -322,7 +271,7 @@ fn writes_the_text_of_each_command(rt: HostRuntime) {
 
 #[test]
 fn refuses_other_words_and_circuits(rt: HostRuntime) {
-    all_play(&rt, rt.alloc(), USAGES.as_slice());
+    rows_play(&rt, rt.alloc(), &USAGE, USAGE_ROWS);
     all_play(&rt, rt.alloc(), NO_CIRCUITS.as_slice());
 }
 

@@ -1,268 +1,96 @@
 //! Whole decodings, of octets that were worked out by hand from the layouts of the RFCs.
 
-use crate::around::{Case, DECODE, Taken, all_play, plays};
+use crate::around::{Case, DECODE, Taken, all_play, plays, rows_play};
 
 // Messages of sessions and of addresses, and what is not processed.
-static MESSAGES: [Case; 14] = [
-    Case {
-        front: "0001000e0a00000100000201000400000001",
-        taken: Taken::Whole("0 KeepAlive id=1\n"),
-        ..DECODE
-    },
-    DECODE,
-    Case {
-        front: "0001001c0a0000010000 0001001200000001 0300000a 80000010 00000001 0200",
-        taken: Taken::Whole("0 Notification id=1 code=1/0/16/1/512\n"),
-        ..DECODE
-    },
-    Case {
-        front: "0001001c0a0000010000 000100120000000a 0300000a 7fffffff ffffffff ffff",
-        taken: Taken::Whole("0 Notification id=10 code=0/1/1073741823/4294967295/65535\n"),
-        ..DECODE
-    },
-    Case {
-        front: "0001001e0a0000010000 0100001400000007 04000004002dc000 040100040a000002",
-        taken: Taken::Whole("0 Hello id=7 hold=45/1/1 transport=10.0.0.2\n"),
-        ..DECODE
-    },
-    Case {
-        front: "000100160a0000010000 0100000c00000008 04000004ffff4000",
-        taken: Taken::Whole("0 Hello id=8 hold=65535/0/1\n"),
-        ..DECODE
-    },
-    Case {
-        front: "000100340a0000020000 0200002a00000001 0500000e000100b4000010000a0000010000 850300080000000000000000 0501000400000000",
-        taken: Taken::Whole("0 Initialization id=1 session=1/180/0/0/0/4096/10.0.0.1:0\n"),
-        ..DECODE
-    },
-    Case {
-        front: "000100200a0000010000 02000016ffffffff 0500000e0001000fc0050100c0a801ff0007",
-        taken: Taken::Whole(
-            "0 Initialization id=4294967295 session=1/15/1/1/5/256/192.168.1.255:7\n",
-        ),
-        ..DECODE
-    },
-    Case {
-        front: "000100180a0000010000 0300000e00000003 0101000600010a000001",
-        taken: Taken::Whole("0 Address id=3 addresses=1/0a000001\n"),
-        ..DECODE
-    },
-    Case {
-        front: "000100140a0000010000 0300000a00000003 010100020019",
-        taken: Taken::Whole("0 Address id=3 addresses=25/\n"),
-        ..DECODE
-    },
-    Case {
-        front: "000100180a0000010000 0301000e00000004 010100060001c0a801fe",
-        taken: Taken::Whole("0 AddressWithdraw id=4 addresses=1/c0a801fe\n"),
-        ..DECODE
-    },
-    Case {
-        front: "0001000e0a0000010000 bf00000400000009",
-        taken: Taken::Whole("0 Other id=9 type=16128\n"),
-        ..DECODE
-    },
-    Case {
-        front: "000100160a0000010000 0201000c00000002 3f000000 3f010000",
-        taken: Taken::Whole("0 Unprocessed id=2 type=513 why=UnknownTlv:16128\n"),
-        ..DECODE
-    },
-    Case {
-        front: "0001000e0a0000010000 0001000400000005",
-        taken: Taken::Whole("0 Unprocessed id=5 type=1 why=Missing:Status\n"),
-        ..DECODE
-    },
-];
+const SESSION_ROWS: &str = "
+    0001000e0a00000100000201000400000001 -> 0 KeepAlive id=1
+    0001001c0a0000010000 0001001200000001 0300000a 80000010 00000001 0200 -> 0 Notification id=1 code=1/0/16/1/512
+    0001001c0a0000010000 000100120000000a 0300000a 7fffffff ffffffff ffff -> 0 Notification id=10 code=0/1/1073741823/4294967295/65535
+    0001001e0a0000010000 0100001400000007 04000004002dc000 040100040a000002 -> 0 Hello id=7 hold=45/1/1 transport=10.0.0.2
+    000100160a0000010000 0100000c00000008 04000004ffff4000 -> 0 Hello id=8 hold=65535/0/1
+    000100340a0000020000 0200002a00000001 0500000e000100b4000010000a0000010000 850300080000000000000000 0501000400000000 -> 0 Initialization id=1 session=1/180/0/0/0/4096/10.0.0.1:0
+    000100200a0000010000 02000016ffffffff 0500000e0001000fc0050100c0a801ff0007 -> 0 Initialization id=4294967295 session=1/15/1/1/5/256/192.168.1.255:7
+    000100180a0000010000 0300000e00000003 0101000600010a000001 -> 0 Address id=3 addresses=1/0a000001
+    000100140a0000010000 0300000a00000003 010100020019 -> 0 Address id=3 addresses=25/
+    000100180a0000010000 0301000e00000004 010100060001c0a801fe -> 0 AddressWithdraw id=4 addresses=1/c0a801fe
+    0001000e0a0000010000 bf00000400000009 -> 0 Other id=9 type=16128
+    000100160a0000010000 0201000c00000002 3f000000 3f010000 -> 0 Unprocessed id=2 type=513 why=UnknownTlv:16128
+    0001000e0a0000010000 0001000400000005 -> 0 Unprocessed id=5 type=1 why=Missing:Status
+";
 
 // Label mappings, of which those with a wrong parameter are refused.
-static MAPPINGS: [Case; 7] = [
-    Case {
-        front: "000100320a0000010000 0400002800000003 01000010 80800508 00000000 00000064 010405dc 0200000400000010 896a000400000000",
-        taken: Taken::Whole("0 LabelMapping id=3 fec=1/5/0/100 mtu=1500 label=16 status=0\n"),
-        ..DECODE
-    },
-    // A parameter that is not known is passed over.
-    Case {
-        front: "000100340a0000010000 0400002a00000003 01000012 8080050a 00000000 00000064 010405dc 7f02 0200000400000010 896a000400000000",
-        taken: Taken::Whole("0 LabelMapping id=3 fec=1/5/0/100 mtu=1500 label=16 status=0\n"),
-        ..DECODE
-    },
-    Case {
-        front: "0001005e0a0000010000 0400005400000003 0100001c 80000414 00000007 00000064 010405dc 03046162 06040fff 0c040102 02000004000fffff 896a00040000003f 896d0012 010400000064 03040a000002 04040a000003 896d0006 03040a000003",
-        taken: Taken::Whole(
-            "0 LabelMapping id=3 fec=0/4/7/100 mtu=1500 description=6162 vlan=4095 vccv=1/2 label=1048575 status=63 point=100/10.0.0.2/10.0.0.3 point=-/10.0.0.3/-\n",
-        ),
-        ..DECODE
-    },
-    Case {
-        front: "000100340a0000010000 0400002a00000003 01000012 8080050a 00000000 00000064 010405dc 7f01 0200000400000010 896a000400000000",
-        status: 6,
-        told: "vplsnet: stream: 0 TlvValue 39 Parameter",
-        ..DECODE
-    },
-    Case {
-        front: "000100320a0000010000 0400002800000003 01000010 80800514 00000000 00000064 010405dc 0200000400000010 896a000400000000",
-        status: 6,
-        told: "vplsnet: stream: 0 TlvValue 25 InfoLength",
-        ..DECODE
-    },
-    // A second element behind the first.
-    Case {
-        front: "0001003a0a0000010000 0400003000000003 01000018 80800508 00000000 00000064 010405dc 8080050000000007 0200000400000010 896a000400000000",
-        taken: Taken::Whole("0 Unprocessed id=3 type=1024 why=UnknownFec:128\n"),
-        ..DECODE
-    },
-    // The prefix 10.0.0.3/32 with the label 3.
-    Case {
-        front: "000100220a0000010000 0400001800000003 01000008 02000120 0a000003 0200000400000003",
-        taken: Taken::Whole("0 Unprocessed id=3 type=1024 why=UnknownFec:2\n"),
-        ..DECODE
-    },
-];
+const MAPPING_ROWS: &str = "
+    000100320a0000010000 0400002800000003 01000010 80800508 00000000 00000064 010405dc 0200000400000010 896a000400000000 -> 0 LabelMapping id=3 fec=1/5/0/100 mtu=1500 label=16 status=0
+    A parameter that is not known is passed over.
+    000100340a0000010000 0400002a00000003 01000012 8080050a 00000000 00000064 010405dc 7f02 0200000400000010 896a000400000000 -> 0 LabelMapping id=3 fec=1/5/0/100 mtu=1500 label=16 status=0
+    000100340a0000010000 0400002a00000003 01000012 8080050a 00000000 00000064 010405dc 7f01 0200000400000010 896a000400000000 -> ! 6 vplsnet: stream: 0 TlvValue 39 Parameter
+    000100320a0000010000 0400002800000003 01000010 80800514 00000000 00000064 010405dc 0200000400000010 896a000400000000 -> ! 6 vplsnet: stream: 0 TlvValue 25 InfoLength
+    A second element behind the first.
+    0001003a0a0000010000 0400003000000003 01000018 80800508 00000000 00000064 010405dc 8080050000000007 0200000400000010 896a000400000000 -> 0 Unprocessed id=3 type=1024 why=UnknownFec:128
+    The prefix 10.0.0.3/32 with the label 3.
+    000100220a0000010000 0400001800000003 01000008 02000120 0a000003 0200000400000003 -> 0 Unprocessed id=3 type=1024 why=UnknownFec:2
+";
+
+static LONG_MAPPING: Case = Case {
+    front: "0001005e0a0000010000 0400005400000003 0100001c 80000414 00000007 00000064 010405dc 03046162 06040fff 0c040102 02000004000fffff 896a00040000003f 896d0012 010400000064 03040a000002 04040a000003 896d0006 03040a000003",
+    taken: Taken::Whole(
+        "0 LabelMapping id=3 fec=0/4/7/100 mtu=1500 description=6162 vlan=4095 vccv=1/2 label=1048575 status=63 point=100/10.0.0.2/10.0.0.3 point=-/10.0.0.3/-\n",
+    ),
+    ..DECODE
+};
 
 // Requests and withdrawals of labels, the status of a pseudowire, and withdrawn MAC addresses.
-static LABELS: [Case; 7] = [
-    // An empty description is none.
-    Case {
-        front: "000100200a0000010000 0401001600000004 0100000e 80800506 00000000 00000064 0302",
-        taken: Taken::Whole("0 LabelRequest id=4 fec=1/5/0/100\n"),
-        ..DECODE
-    },
-    Case {
-        front: "0001001a0a0000010000 0402001000000004 01000008 80800500 00000007",
-        taken: Taken::Whole("0 LabelWithdraw id=4 fec=1/5/7/*\n"),
-        ..DECODE
-    },
-    Case {
-        front: "000100260a0000010000 0403001c00000009 0100000c 80800504 00000000 00000064 0200000400000010",
-        taken: Taken::Whole("0 LabelRelease id=9 fec=1/5/0/100 label=16\n"),
-        ..DECODE
-    },
-    Case {
-        front: "000100260a0000010000 0404001c0000000a 0100000c 80800504 00000000 00000064 0600000400000009",
-        taken: Taken::Whole("0 LabelAbort id=10 fec=1/5/0/100 request=9\n"),
-        ..DECODE
-    },
-    Case {
-        front: "000100340a0000010000 0001002a0000000b 0300000a 00000028 00000000 0000 896a000400000010 0100000c 80800504 00000000 00000064",
-        taken: Taken::Whole("0 Notification id=11 code=0/0/40/0/0 fec=1/5/0/100 status=16\n"),
-        ..DECODE
-    },
-    Case {
-        front: "000100220a000001000003010018000000050100000c8080050400000000000000ca84040000",
-        taken: Taken::Whole("0 AddressWithdraw id=5 fec=1/5/0/202 macs=0/\n"),
-        ..DECODE
-    },
-    Case {
-        front: "0001002e0a0000010000 0301002400000006 0100000c 80800504 00000000 00000064 8404000c 020000000001 0200000000ff",
-        taken: Taken::Whole(
-            "0 AddressWithdraw id=6 fec=1/5/0/100 macs=2/0200000000010200000000ff\n",
-        ),
-        ..DECODE
-    },
-];
+const LABEL_ROWS: &str = "
+    An empty description is none.
+    000100200a0000010000 0401001600000004 0100000e 80800506 00000000 00000064 0302 -> 0 LabelRequest id=4 fec=1/5/0/100
+    0001001a0a0000010000 0402001000000004 01000008 80800500 00000007 -> 0 LabelWithdraw id=4 fec=1/5/7/*
+    000100260a0000010000 0403001c00000009 0100000c 80800504 00000000 00000064 0200000400000010 -> 0 LabelRelease id=9 fec=1/5/0/100 label=16
+    000100260a0000010000 0404001c0000000a 0100000c 80800504 00000000 00000064 0600000400000009 -> 0 LabelAbort id=10 fec=1/5/0/100 request=9
+    000100340a0000010000 0001002a0000000b 0300000a 00000028 00000000 0000 896a000400000010 0100000c 80800504 00000000 00000064 -> 0 Notification id=11 code=0/0/40/0/0 fec=1/5/0/100 status=16
+    000100220a000001000003010018000000050100000c8080050400000000000000ca84040000 -> 0 AddressWithdraw id=5 fec=1/5/0/202 macs=0/
+    0001002e0a0000010000 0301002400000006 0100000c 80800504 00000000 00000064 8404000c 020000000001 0200000000ff -> 0 AddressWithdraw id=6 fec=1/5/0/100 macs=2/0200000000010200000000ff
+";
 
 // Streams of some PDUs, of which the last may be cut.
-static STREAMS: [Case; 5] = [
-    Case {
-        front: "000100200a0000010000 0200001600000001 0500000e 000100b4000010000a0000020000 \
-         0001000e0a0000010000 0201000400000002 \
-         000100320a0000010000 0400002800000003 01000010 80800508 00000000 00000064 010405dc 0200000400000010 896a000400000000 \
-         000100340a0000010000 0001002a00000004 0300000a 00000028 00000000 0000 896a000400000006 0100000c 80800504 00000000 00000064 \
-         0001002e0a0000010000 0301002400000005 0100000c 80800504 00000000 00000064 8404000c 02000000000a 02000000000b \
-         000100260a0000010000 0402001c00000006 0100000c 80800504 00000000 00000064 0200000400000010 \
-         000100260a0000010000 0403001c00000007 0100000c 80800504 00000000 00000064 0200000400000011",
-        taken: Taken::Whole(
-            "0 Initialization id=1 session=1/180/0/0/0/4096/10.0.0.2:0\n\
-         36 KeepAlive id=2\n\
-         54 LabelMapping id=3 fec=1/5/0/100 mtu=1500 label=16 status=0\n\
-         108 Notification id=4 code=0/0/40/0/0 fec=1/5/0/100 status=6\n\
-         164 AddressWithdraw id=5 fec=1/5/0/100 macs=2/02000000000a02000000000b\n\
-         214 LabelWithdraw id=6 fec=1/5/0/100 label=16\n\
-         256 LabelRelease id=7 fec=1/5/0/100 label=17\n",
-        ),
-        ..DECODE
-    },
-    Case {
-        front: "000100160a0000010000 0201000400000001 0201000400000002 0001000e0a00000100000201000400000001",
-        taken: Taken::Whole("0 KeepAlive id=1\n0 KeepAlive id=2\n26 KeepAlive id=1\n"),
-        ..DECODE
-    },
-    Case {
-        front: "0001000e0a000001000002010004000000",
-        status: 6,
-        told: "vplsnet: stream ends at 0",
-        ..DECODE
-    },
-    Case {
-        front: "0001000e0a00000100000201000400000001 00",
-        taken: Taken::Whole("0 KeepAlive id=1\n"),
-        status: 6,
-        told: "vplsnet: stream ends at 18",
-        ..DECODE
-    },
-    Case {
-        front: "000100160a0000010000 0201000400000001 0201000400000002 0001000e0a00",
-        taken: Taken::Whole("0 KeepAlive id=1\n0 KeepAlive id=2\n"),
-        status: 6,
-        told: "vplsnet: stream ends at 26",
-        ..DECODE
-    },
-];
+const STREAM_ROWS: &str = "
+    000100160a0000010000 0201000400000001 0201000400000002 0001000e0a00000100000201000400000001 -> 0 KeepAlive id=1 / 0 KeepAlive id=2 / 26 KeepAlive id=1
+    0001000e0a000001000002010004000000 -> ! 6 vplsnet: stream ends at 0
+    0001000e0a00000100000201000400000001 00 -> 0 KeepAlive id=1 ! 6 vplsnet: stream ends at 18
+    000100160a0000010000 0201000400000001 0201000400000002 0001000e0a00 -> 0 KeepAlive id=1 / 0 KeepAlive id=2 ! 6 vplsnet: stream ends at 26
+";
+
+static STREAM: Case = Case {
+    front: "000100200a0000010000 0200001600000001 0500000e 000100b4000010000a0000020000 \
+     0001000e0a0000010000 0201000400000002 \
+     000100320a0000010000 0400002800000003 01000010 80800508 00000000 00000064 010405dc 0200000400000010 896a000400000000 \
+     000100340a0000010000 0001002a00000004 0300000a 00000028 00000000 0000 896a000400000006 0100000c 80800504 00000000 00000064 \
+     0001002e0a0000010000 0301002400000005 0100000c 80800504 00000000 00000064 8404000c 02000000000a 02000000000b \
+     000100260a0000010000 0402001c00000006 0100000c 80800504 00000000 00000064 0200000400000010 \
+     000100260a0000010000 0403001c00000007 0100000c 80800504 00000000 00000064 0200000400000011",
+    taken: Taken::Whole(
+        "0 Initialization id=1 session=1/180/0/0/0/4096/10.0.0.2:0\n\
+     36 KeepAlive id=2\n\
+     54 LabelMapping id=3 fec=1/5/0/100 mtu=1500 label=16 status=0\n\
+     108 Notification id=4 code=0/0/40/0/0 fec=1/5/0/100 status=6\n\
+     164 AddressWithdraw id=5 fec=1/5/0/100 macs=2/02000000000a02000000000b\n\
+     214 LabelWithdraw id=6 fec=1/5/0/100 label=16\n\
+     256 LabelRelease id=7 fec=1/5/0/100 label=17\n",
+    ),
+    ..DECODE
+};
 
 // Streams that are refused for a header or a message.
-static REFUSED: [Case; 8] = [
-    Case {
-        front: "0001000d",
-        status: 6,
-        told: "vplsnet: stream: 0 PduLength 2",
-        ..DECODE
-    },
-    Case {
-        front: "00011001",
-        status: 6,
-        told: "vplsnet: stream: 0 PduLength 2",
-        ..DECODE
-    },
-    Case {
-        front: "0002",
-        status: 6,
-        told: "vplsnet: stream: 0 Version 0",
-        ..DECODE
-    },
-    Case {
-        front: "0001000e0a00000100000201000400000001 0001000d",
-        taken: Taken::Whole("0 KeepAlive id=1\n"),
-        status: 6,
-        told: "vplsnet: stream: 18 PduLength 2",
-        ..DECODE
-    },
-    Case {
-        front: "0001000e0a00000100000201000400000001 0001000e0a0000010000 0201000300000001",
-        taken: Taken::Whole("0 KeepAlive id=1\n"),
-        status: 6,
-        told: "vplsnet: stream: 18 MessageLength 12",
-        ..DECODE
-    },
-    Case {
-        front: "0001000f0a0000010000 020100050000000100",
-        status: 6,
-        told: "vplsnet: stream: 0 TlvLength 18",
-        ..DECODE
-    },
-    Case {
-        front: "0001001b0a0000010000 0001001100000001 03000009 800000100000000102",
-        status: 6,
-        told: "vplsnet: stream: 0 TlvValue 20 Status",
-        ..DECODE
-    },
-    Case {
-        front: "0001001e0a0000010000 0100001400000007 04000004002dc000 04000004002dc000",
-        status: 6,
-        told: "vplsnet: stream: 0 Repeated 26 Hello",
-        ..DECODE
-    },
-];
+const REFUSED_ROWS: &str = "
+    0001000d -> ! 6 vplsnet: stream: 0 PduLength 2
+    00011001 -> ! 6 vplsnet: stream: 0 PduLength 2
+    0002 -> ! 6 vplsnet: stream: 0 Version 0
+    0001000e0a00000100000201000400000001 0001000d -> 0 KeepAlive id=1 ! 6 vplsnet: stream: 18 PduLength 2
+    0001000e0a00000100000201000400000001 0001000e0a0000010000 0201000300000001 -> 0 KeepAlive id=1 ! 6 vplsnet: stream: 18 MessageLength 12
+    0001000f0a0000010000 020100050000000100 -> ! 6 vplsnet: stream: 0 TlvLength 18
+    0001001b0a0000010000 0001001100000001 03000009 800000100000000102 -> ! 6 vplsnet: stream: 0 TlvValue 20 Status
+    0001001e0a0000010000 0100001400000007 04000004002dc000 04000004002dc000 -> ! 6 vplsnet: stream: 0 Repeated 26 Hello
+";
 
 // A KeepAlive and a PDU with a wrong length, in a sound surrounding.
 const CUT: Case = Case {
@@ -274,37 +102,15 @@ const CUT: Case = Case {
 const LINE: &str = "0 KeepAlive id=1\n";
 
 // How a call of these ends, by its words, by which call of the shelf fails, and by how much the sink takes.
-static OUTSIDE: [Case; 11] = [
-    Case {
-        words: "decode",
-        status: 2,
-        told: "vplsnet: usage",
-        ..CUT
-    },
-    Case {
-        words: "decode f f",
-        status: 2,
-        told: "vplsnet: usage",
-        ..CUT
-    },
-    Case {
-        words: "decode -f",
-        status: 2,
-        told: "vplsnet: usage",
-        ..CUT
-    },
-    Case {
-        words: "decoded f",
-        status: 2,
-        told: "vplsnet: usage",
-        ..CUT
-    },
-    Case {
-        words: "decode g",
-        status: 3,
-        told: "vplsnet: read fault",
-        ..CUT
-    },
+const OUTSIDE_ROWS: &str = "
+    $ decode -> ! 2 vplsnet: usage
+    $ decode f f -> ! 2 vplsnet: usage
+    $ decode -f -> ! 2 vplsnet: usage
+    $ decoded f -> ! 2 vplsnet: usage
+    $ decode g -> ! 3 vplsnet: read fault
+";
+
+static OUTSIDE: [Case; 6] = [
     Case {
         shelf_fails: 1,
         status: 3,
@@ -423,26 +229,34 @@ static TOO_LONG: Case = Case {
     ..DECODE
 };
 
+static DECODED: Case = DECODE;
+
+static CUT_OFF: Case = CUT;
+
 #[test]
 fn writes_messages_of_sessions_and_addresses(rt: HostRuntime) {
-    all_play(&rt, rt.alloc(), MESSAGES.as_slice());
+    rows_play(&rt, rt.alloc(), &DECODED, SESSION_ROWS);
+    plays(&rt, rt.alloc(), &DECODED);
 }
 
 #[test]
 fn writes_label_mappings(rt: HostRuntime) {
-    all_play(&rt, rt.alloc(), MAPPINGS.as_slice());
+    rows_play(&rt, rt.alloc(), &DECODED, MAPPING_ROWS);
+    plays(&rt, rt.alloc(), &LONG_MAPPING);
 }
 
 #[test]
 fn writes_messages_of_labels(rt: HostRuntime) {
-    all_play(&rt, rt.alloc(), LABELS.as_slice());
+    rows_play(&rt, rt.alloc(), &DECODED, LABEL_ROWS);
 }
 
 #[test]
 fn ends_where_a_stream_or_the_outside_does(rt: HostRuntime) {
     let alloc = rt.alloc();
-    all_play(&rt, alloc, STREAMS.as_slice());
-    all_play(&rt, alloc, REFUSED.as_slice());
+    rows_play(&rt, alloc, &DECODED, STREAM_ROWS);
+    plays(&rt, alloc, &STREAM);
+    rows_play(&rt, alloc, &DECODED, REFUSED_ROWS);
+    rows_play(&rt, alloc, &CUT_OFF, OUTSIDE_ROWS);
     all_play(&rt, alloc, OUTSIDE.as_slice());
     plays(&rt, alloc, &MANY);
 }

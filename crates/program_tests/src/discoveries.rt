@@ -1,6 +1,6 @@
 //! The command `discover`: scripts over a plan of two edges, and what is refused before.
 
-use crate::around::{Case, REPLAY, Taken, all_play, plays};
+use crate::around::{Case, REPLAY, Taken, all_play, plays, rows_play};
 
 /// Two edges, a mesh wire and a circuit.
 pub const PLAN: &str =
@@ -217,28 +217,12 @@ static REFUSED: [Case; 6] = [
     },
 ];
 
-static USAGES: [Case; 3] = [
-    Case {
-        words: "discover f",
-        status: 2,
-        told: "vplsnet: usage",
-        ..DISCOVER
-    },
-    Case {
-        words: "discover f s s",
-        status: 2,
-        told: "vplsnet: usage",
-        ..DISCOVER
-    },
-    Case {
-        words: "discover f -s",
-        status: 2,
-        told: "vplsnet: usage",
-        ..DISCOVER
-    },
-];
+const USAGE_ROWS: &str = "
+    $ discover f -> ! 2 vplsnet: usage
+    $ discover f s s -> ! 2 vplsnet: usage
+    $ discover f -s -> ! 2 vplsnet: usage
+";
 
-// A file is not there, a call of the shelf fails, or one of the sink, which took a front before.
 // A scenario of two edges that connect, as a second file.
 const PAIR: &str = "version = 2
 events = []
@@ -287,6 +271,7 @@ static LONG: Case = Case {
     ..DISCOVER
 };
 
+// A file is not there, a call of the shelf fails, or one of the sink, which took a front before.
 static FAILED: [Case; 4] = [
     Case {
         second: None,
@@ -316,6 +301,8 @@ static FAILED: [Case; 4] = [
     },
 ];
 
+static DISCOVERY: Case = DISCOVER;
+
 #[test]
 fn reports_scripts(rt: HostRuntime) {
     all_play(&rt, rt.alloc(), DONE.as_slice());
@@ -334,6 +321,6 @@ fn refuses_a_script_that_is_too_long(rt: HostRuntime) {
 #[test]
 fn refuses_what_is_no_script(rt: HostRuntime) {
     all_play(&rt, rt.alloc(), REFUSED.as_slice());
-    all_play(&rt, rt.alloc(), USAGES.as_slice());
+    rows_play(&rt, rt.alloc(), &DISCOVERY, USAGE_ROWS);
     all_play(&rt, rt.alloc(), FAILED.as_slice());
 }

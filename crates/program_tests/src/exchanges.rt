@@ -1,6 +1,6 @@
 //! The command `switchover`: scripts over a plan of two edges, and what is refused before.
 
-use crate::around::{Case, REPLAY, Taken, all_play};
+use crate::around::{Case, REPLAY, Taken, all_play, rows_play};
 use crate::discoveries::PLAN;
 
 // No network runs, so that there are no entries.
@@ -138,20 +138,10 @@ static REFUSED: [Case; 4] = [
     },
 ];
 
-static USAGES: [Case; 2] = [
-    Case {
-        words: "switchover f",
-        status: 2,
-        told: "vplsnet: usage",
-        ..SWITCHOVER
-    },
-    Case {
-        words: "switchover -f s",
-        status: 2,
-        told: "vplsnet: usage",
-        ..SWITCHOVER
-    },
-];
+const USAGE_ROWS: &str = "
+    $ switchover f -> ! 2 vplsnet: usage
+    $ switchover -f s -> ! 2 vplsnet: usage
+";
 
 // A file is not there, or a call of the sink fails, which took a front before.
 static FAILED: [Case; 3] = [
@@ -177,6 +167,8 @@ static FAILED: [Case; 3] = [
     },
 ];
 
+static EXCHANGE: Case = SWITCHOVER;
+
 #[test]
 fn tells_what_comes_of_lines(rt: HostRuntime) {
     all_play(&rt, rt.alloc(), DONE.as_slice());
@@ -185,6 +177,6 @@ fn tells_what_comes_of_lines(rt: HostRuntime) {
 #[test]
 fn does_nothing_else(rt: HostRuntime) {
     all_play(&rt, rt.alloc(), REFUSED.as_slice());
-    all_play(&rt, rt.alloc(), USAGES.as_slice());
+    rows_play(&rt, rt.alloc(), &EXCHANGE, USAGE_ROWS);
     all_play(&rt, rt.alloc(), FAILED.as_slice());
 }

@@ -8,11 +8,6 @@ use std::process::Abort;
 use vplsnet::Outcome;
 use vplsnet::finish_line::finish_line;
 
-// The text of a fault, and these words behind it.
-fn text_of(rt: &impl Abort, alloc: Global, fault: &ScenarioFault, rest: &str) -> String {
-    format!(in alloc; "vplsnet: scenario: {fault}{rest}").expect(rt, "memory")
-}
-
 // Whether the program tells the fault by this line.
 fn is_line(rt: &impl Abort, alloc: Global, fault: &ScenarioFault, text: &str) -> bool {
     let line = finish_line(alloc, &Outcome::ScenarioRefused(*fault)).expect(rt, "memory");
@@ -21,7 +16,7 @@ fn is_line(rt: &impl Abort, alloc: Global, fault: &ScenarioFault, text: &str) ->
 
 // The program tells the fault by the fault's own text, and these words behind it.
 fn is_told(rt: &impl Abort, alloc: Global, fault: &ScenarioFault, rest: &str) {
-    let text = text_of(rt, alloc, fault, rest);
+    let text = format!(in alloc; "vplsnet: scenario: {fault}{rest}").expect(rt, "memory");
     assert!(rt; is_line(rt, alloc, fault, text.as_str()));
 }
 

@@ -1,6 +1,6 @@
 //! The command `migrate`: what it writes, and what is refused before.
 
-use crate::around::{Case, REPLAY, Taken, all_play};
+use crate::around::{Case, REPLAY, Taken, all_play, rows_play};
 
 // The text of version 2 of a scenario without rows or events.
 const NOTHING: &str = "events = []\nversion = 2\n";
@@ -51,22 +51,10 @@ static MIGRATED: [Case; 4] = [
 ];
 
 // Words that are no row of the table.
-static USAGES: [Case; 2] = [
-    Case {
-        words: "migrate",
-        status: 2,
-        taken: Taken::Whole(""),
-        told: "vplsnet: usage",
-        ..MIGRATE
-    },
-    Case {
-        words: "migrate f f",
-        status: 2,
-        taken: Taken::Whole(""),
-        told: "vplsnet: usage",
-        ..MIGRATE
-    },
-];
+const USAGE_ROWS: &str = "
+    $ migrate -> ! 2 vplsnet: usage
+    $ migrate f f -> ! 2 vplsnet: usage
+";
 
 // A call of the shelf fails, or one of the sink, which took a front before.
 static FAILED: [Case; 3] = [
@@ -93,6 +81,8 @@ static FAILED: [Case; 3] = [
     },
 ];
 
+static MIGRATION: Case = MIGRATE;
+
 #[test]
 fn migrates_what_it_reads(rt: HostRuntime) {
     all_play(&rt, rt.alloc(), MIGRATED.as_slice());
@@ -100,6 +90,6 @@ fn migrates_what_it_reads(rt: HostRuntime) {
 
 #[test]
 fn migrates_nothing_else(rt: HostRuntime) {
-    all_play(&rt, rt.alloc(), USAGES.as_slice());
+    rows_play(&rt, rt.alloc(), &MIGRATION, USAGE_ROWS);
     all_play(&rt, rt.alloc(), FAILED.as_slice());
 }

@@ -1,28 +1,8 @@
 //! Whole replays of one edge, and how a call ends that is not done.
 
-use crate::around::{Case, REPLAY, Taken, all_play, plays_in};
+use crate::around::{Case, ONE_EDGE, REPLAY, Taken, all_play, plays, plays_in, rows_play};
 use std::alloc::Global;
 use std::process::Abort;
-
-const TABLES: &str = "
-[[edge]]
-name = \"e\"
-address = \"10.0.0.1\"
-[[service]]
-name = \"s\"
-[[circuit]]
-name = \"c1\"
-edge = \"e\"
-service = \"s\"
-[[circuit]]
-name = \"c2\"
-edge = \"e\"
-service = \"s\"
-[[circuit]]
-name = \"c3\"
-edge = \"e\"
-service = \"s\"
-";
 
 const BROADCAST: &str = "events = [\"frame c1 ffffffffffff0200000000010800\"]";
 
@@ -38,7 +18,7 @@ end events=1 in=1 left=2 sent=0 dropped=0
 const TABLED: Case = Case {
     opening: "version = 1\n",
     closing: "\n",
-    tables: TABLES,
+    tables: ONE_EDGE,
     ..REPLAY
 };
 
@@ -61,31 +41,22 @@ static DONE: [Case; 2] = [
 ];
 
 // Words that are no command's.
-const USAGE: Case = Case {
+static USAGE: Case = Case {
     front: BROADCAST,
     status: 2,
     told: "vplsnet: usage",
     ..TABLED
 };
 
-static UNDONE: [Case; 7] = [
-    Case { words: "", ..USAGE },
-    Case {
-        words: "replay",
-        ..USAGE
-    },
-    Case {
-        words: "replay f f",
-        ..USAGE
-    },
-    Case {
-        words: "replay -f",
-        ..USAGE
-    },
-    Case {
-        words: "report f",
-        ..USAGE
-    },
+const USAGE_ROWS: &str = "
+    $  -> ! 2 vplsnet: usage
+    $ replay -> ! 2 vplsnet: usage
+    $ replay f f -> ! 2 vplsnet: usage
+    $ replay -f -> ! 2 vplsnet: usage
+    $ report f -> ! 2 vplsnet: usage
+";
+
+static UNDONE: [Case; 2] = [
     Case {
         words: "replay g",
         front: BROADCAST,
@@ -108,38 +79,19 @@ const REFUSED: Case = Case {
     ..TABLED
 };
 
-static REFUSALS: [Case; 6] = [
-    Case {
-        front: "events = 1",
-        told: "vplsnet: scenario: WrongKind top 0 events",
-        ..REFUSED
-    },
-    Case {
-        front: "events =",
-        told: "vplsnet: scenario: NotToml",
-        ..REFUSED
-    },
-    Case {
-        front: "events = [\"frame c1 ffffffffffff020000000001080g\"]",
-        told: "vplsnet: scenario: BadWord 1 3",
-        ..REFUSED
-    },
-    Case {
-        front: "events = [\"tick\", \"tick\", \"tick\", \"tick\", \"tick\", \"tick\", \"jump a\"]",
-        told: "vplsnet: scenario: BadWord 7 1",
-        ..REFUSED
-    },
-    Case {
-        front: "\"no key\" = 1",
-        told: "vplsnet: scenario: UnknownKey top 0 no?key",
-        ..REFUSED
-    },
-    Case {
-        front: "[[circuit]]\nname = \"c2\"\nedge = \"e\"\nservice = \"s\"",
-        told: "vplsnet: scenario: Plan RepeatedName circuit 3 name",
-        ..REFUSED
-    },
-];
+const REFUSED_ROWS: &str = r#"
+    events = 1 -> ! 5 vplsnet: scenario: WrongKind top 0 events
+    events = -> ! 5 vplsnet: scenario: NotToml
+    events = ["frame c1 ffffffffffff020000000001080g"] -> ! 5 vplsnet: scenario: BadWord 1 3
+    events = ["tick", "tick", "tick", "tick", "tick", "tick", "jump a"] -> ! 5 vplsnet: scenario: BadWord 7 1
+    "no key" = 1 -> ! 5 vplsnet: scenario: UnknownKey top 0 no?key
+"#;
+
+static REPEATED: Case = Case {
+    front: "[[circuit]]\nname = \"c2\"\nedge = \"e\"\nservice = \"s\"",
+    told: "vplsnet: scenario: Plan RepeatedName circuit 3 name",
+    ..REFUSED
+};
 
 // A file of 8,388,608 octets, and one of an octet more.
 const LONGEST: Case = Case {
@@ -208,17 +160,16 @@ static FULL: Case = Case {
     ..FLOOD
 };
 
-// A replay ends with a write fault where there is room for so many octets of its report.
-fn fills(rt: &impl Abort, alloc: Global, room: usize) {
-    plays_in(rt, alloc, &FULL, room, Taken::Front(REPORT, room));
-}
+static REFUSAL: Case = REFUSED;
 
 #[test]
 fn ends_with_a_status_and_a_line(rt: HostRuntime) {
     let alloc = rt.alloc();
     all_play(&rt, alloc, DONE.as_slice());
+    rows_play(&rt, alloc, &USAGE, USAGE_ROWS);
     all_play(&rt, alloc, UNDONE.as_slice());
-    all_play(&rt, alloc, REFUSALS.as_slice());
+    rows_play(&rt, alloc, &REFUSAL, REFUSED_ROWS);
+    plays(&rt, alloc, &REPEATED);
     all_play(&rt, alloc, LENGTHS.as_slice());
     all_play(&rt, alloc, FAILING.as_slice());
 }
@@ -226,6 +177,6 @@ fn ends_with_a_status_and_a_line(rt: HostRuntime) {
 #[test]
 fn stops_where_the_sink_is_full(rt: HostRuntime) {
     for room in 0..REPORT.len() {
-        fills(&rt, rt.alloc(), room);
+        plays_in(&rt, rt.alloc(), &FULL, room, Taken::Front(REPORT, room));
     }
 }
