@@ -82,8 +82,8 @@ fn two_word_request<'a>(command: &str, file: &'a str, word: &'a str) -> Option<R
     }
 }
 
-// Whether a word is neither empty nor an option.
-fn is_plain_word(word: &str) -> bool
+/// Whether a word is neither empty nor an option.
+pub fn is_plain_word(word: &str) -> bool
     ensures { result ≡ is_plain_argument word.now }
 {
     let octets = word.as_bytes();

@@ -4,6 +4,7 @@ ghost use Rattle.vplsnet.specs.Asked.{is_plain_argument};
 ghost use Rattle.vplsnet_survey.specs.Asked.{most_in, of_file, survey_asked, survey_by};
 
 use command_text::is_same;
+use vplsnet::is_plain_word;
 
 /// A scenario's file, and of how many faults a case has at most.
 #[derive(Clone, Copy)]
@@ -25,14 +26,6 @@ fn most_in(word: &str) -> Option<usize>
     } else {
         None
     }
-}
-
-// Whether a word is neither empty nor an option.
-fn is_plain_word(word: &str) -> bool
-    ensures { result ≡ is_plain_argument word.now }
-{
-    let octets = word.as_bytes();
-    !octets.is_empty() && octets[0] != b'-'
 }
 
 // A file and how many, where that is told.
