@@ -2,9 +2,8 @@
 
 use crate::outcome::Outcome;
 use net_base::NoMemory;
-use std::env;
-use std::io;
 use std::io::Write;
+use std::{env, io};
 
 /// The words of the command line, without the program's own name; or how a call ends without them.
 pub fn words_of(rt: &HostRuntime) -> Result<Vec<String>, Outcome> {

@@ -20,16 +20,14 @@ pub enum ReadStop {
     NoMemory,
 }
 
+/// The octets of a file, or why it was not read.
+pub type FileRead = Result<Octets, ReadStop>;
+
 /// Reads a file from its front on, to its end or until one octet more than the limit is read: of all files with which the answers of the
 /// shelf agree, exactly the first `min(length, limit + 1)` octets. It asks for no octet beyond `limit + 1`, and for no other file.
 ///
 /// `Fault` comes only where a call with this name failed. `TooLong` never comes.
-pub fn read_front<F: Shelf>(
-    alloc: Global,
-    shelf: &mut F,
-    name: &str,
-    limit: usize,
-) -> Result<Octets, ReadStop>
+pub fn read_front<F: Shelf>(alloc: Global, shelf: &mut F, name: &str, limit: usize) -> FileRead
     requires { limit < 2 ^ 62 }
     ensures front { OfFiles (gained (F.reads shelf.old) (F.reads shelf.new)) (λ held. IfOk result (λ octets. IsFrontOf limit (held name.now) octets)) }
     ensures within { IfOk result (λ octets. length octets ≤ limit + 1) }
@@ -60,12 +58,7 @@ pub fn read_front<F: Shelf>(
 /// and for no other file.
 ///
 /// `Fault` comes only where a call with this name failed.
-pub fn read_file<F: Shelf>(
-    alloc: Global,
-    shelf: &mut F,
-    name: &str,
-    limit: usize,
-) -> Result<Octets, ReadStop>
+pub fn read_file<F: Shelf>(alloc: Global, shelf: &mut F, name: &str, limit: usize) -> FileRead
     requires { limit < 2 ^ 62 }
     ensures whole { OfFiles (gained (F.reads shelf.old) (F.reads shelf.new)) (λ held. IfOk result (λ octets. held name.now ≡ Some octets)) }
     ensures within { IfOk result (λ octets. length octets ≤ limit) }
@@ -83,7 +76,7 @@ pub fn read_file<F: Shelf>(
 
 // The octets, where they are no more than the limit. Apart, since only so does a clause keep a file that is too long from being told as
 // want of memory.
-fn within(octets: Octets, limit: usize) -> Result<Octets, ReadStop>
+fn within(octets: Octets, limit: usize) -> FileRead
     ensures fits { IfOk result (λ same. (same ≡ octets) × (length octets ≤ limit)) }
     ensures long { IfErr result (λ stop. (stop ≡ ReadStop.TooLong) × (limit < length octets)) }
 {

@@ -47,7 +47,7 @@ mod write_log;
 pub use audit_rule::AuditRule;
 pub use command_line::{tell, words_of};
 pub use file_shelf::FileShelf;
-pub use files::{ReadStop, read_file};
+pub use files::{FileRead, ReadStop, read_file};
 pub use finish::Finish;
 pub use laws::one_input_one_text;
 pub use outcome::Outcome;
