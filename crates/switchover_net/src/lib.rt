@@ -4,6 +4,7 @@
 //! `switchover_model` says what each line does, what is told of it, and what holds after every script.
 #![tactic(auto)]
 
+mod at_line;
 mod edge_row;
 mod script;
 mod switch_net;

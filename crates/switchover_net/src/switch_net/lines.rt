@@ -5,7 +5,9 @@ ghost use Rattle.switchover_model.specs.Network.{switch_connecting, cutting, swi
 ghost use Rattle.switchover_model.specs.{Text.{deliver_entries, entries, line_entries, settle_entries}, Planned.{IsLineOf}};
 ghost use Rattle.switchover_net.specs.Net.{IsReached, Makes, ShowsSwitchState, cut_entries, pair_entries};
 
+use super::steps::{Setting, Way};
 use crate::SwitchNet;
+use crate::at_line::AtLine;
 use crate::waiting::{first_pair, is_waiting};
 use independent_mode::{joins_two, other_of_two};
 use net_base::{EdgeId, List, NoMemory, WireId};
@@ -27,13 +29,16 @@ impl SwitchNet {
         ensures state { (x : SwitchState) → ShowsSwitchState self.old x → OnOk result (ShowsSwitchState self.new (done self.old.row.plan line x)) }
         ensures entries { (x : SwitchState) → ShowsSwitchState self.old x → IfOk result (λ out. out ≡ line_entries self.old.row.plan line x) }
     {
-        let mut out = List::new(alloc);
+        let mut work = AtLine {
+            alloc,
+            out: List::new(alloc),
+        };
         if self.is_idle(line) {
-            out.push(SwitchEntry::Idle)?;
-            return Ok(out);
+            work.out.push(SwitchEntry::Idle)?;
+            return Ok(work.out);
         }
-        self.apply(alloc, line, &mut out)?;
-        Ok(out)
+        self.apply(line, &mut work)?;
+        Ok(work.out)
     }
 
     // Whether a line does not apply.
@@ -61,25 +66,22 @@ impl SwitchNet {
 
     // Does a line that applies.
     #[tactic(auto, using(crate::proofs::LineLemmas::apply_steps))]
-    fn apply(
-        &mut self,
-        alloc: Global,
-        line: SwitchLine,
-        out: &mut List<SwitchEntry>,
-    ) -> Result<(), NoMemory>
+    fn apply(&mut self, line: SwitchLine, work: &mut AtLine) -> Result<(), NoMemory>
         requires known { IsLineOf self.old.row.plan line }
         requires reached { IsReached self.old }
         requires runs { (x : SwitchState) → ShowsSwitchState self.old x → is_line_idle self.old.row.plan x line ≡ false }
         ensures plan { self.new.row.plan ≡ self.old.row.plan }
-        ensures step { OnOk result (Makes self.old self.new out.old out.new (does self.old.row.plan line) (entries self.old.row.plan line)) }
+        ensures step { OnOk result (Makes self.old self.new work.old.out work.new.out (does self.old.row.plan line) (entries self.old.row.plan line)) }
     {
         match line {
-            SwitchLine::Connect { edge, peer } => self.connect(alloc, edge, peer, out),
-            SwitchLine::Cut { edge, peer } => self.cut(alloc, edge, peer, out),
-            SwitchLine::Deliver { from, to, count } => self.deliver(alloc, from, to, count, out),
-            SwitchLine::Settle { count } => self.settle(alloc, count, out),
+            SwitchLine::Connect { edge, peer } => self.connect(edge, peer, work),
+            SwitchLine::Cut { edge, peer } => self.cut(edge, peer, work),
+            SwitchLine::Deliver { from, to, count } => {
+                self.deliver(Way { from, to }, count, work)
+            }
+            SwitchLine::Settle { count } => self.settle(count, work),
             SwitchLine::Set { edge, wire, wish } => match self.other_end(edge, wire) {
-                Some(peer) => self.set(alloc, edge, wire, wish, peer, out),
+                Some(peer) => self.set(Setting { edge, wire, wish }, peer, work),
                 None => unreachable!(),
             },
         }
@@ -87,39 +89,27 @@ impl SwitchNet {
 
     // Both edges are connected.
     #[tactic(auto, using(crate::proofs::LineLemmas::both_connect))]
-    fn connect(
-        &mut self,
-        alloc: Global,
-        a: EdgeId,
-        b: EdgeId,
-        out: &mut List<SwitchEntry>,
-    ) -> Result<(), NoMemory>
+    fn connect(&mut self, a: EdgeId, b: EdgeId, work: &mut AtLine) -> Result<(), NoMemory>
         requires a { a.0 < length self.old.row.plan.edges }
         requires b { b.0 < length self.old.row.plan.edges }
         ensures plan { self.new.row.plan ≡ self.old.row.plan }
-        ensures step { OnOk result (Makes self.old self.new out.old out.new (switch_connecting self.old.row.plan a.0 b.0) (pair_entries self.old.row.plan a.0 b.0)) }
+        ensures step { OnOk result (Makes self.old self.new work.old.out work.new.out (switch_connecting self.old.row.plan a.0 b.0) (pair_entries self.old.row.plan a.0 b.0)) }
     {
-        self.connect_one(alloc, a, b, out)?;
-        self.connect_one(alloc, b, a, out)
+        self.connect_one(a, b, work)?;
+        self.connect_one(b, a, work)
     }
 
     // Both edges lose the connection.
     #[tactic(auto, using(crate::proofs::LineLemmas::both_lose))]
-    fn cut(
-        &mut self,
-        alloc: Global,
-        a: EdgeId,
-        b: EdgeId,
-        out: &mut List<SwitchEntry>,
-    ) -> Result<(), NoMemory>
+    fn cut(&mut self, a: EdgeId, b: EdgeId, work: &mut AtLine) -> Result<(), NoMemory>
         requires a { a.0 < length self.old.row.plan.edges }
         requires b { b.0 < length self.old.row.plan.edges }
         requires apart { (b.0 == a.0) ≡ false }
         ensures plan { self.new.row.plan ≡ self.old.row.plan }
-        ensures step { OnOk result (Makes self.old self.new out.old out.new (cutting self.old.row.plan a.0 b.0) (cut_entries self.old.row.plan a.0 b.0)) }
+        ensures step { OnOk result (Makes self.old self.new work.old.out work.new.out (cutting self.old.row.plan a.0 b.0) (cut_entries self.old.row.plan a.0 b.0)) }
     {
-        self.lose_one(alloc, a, b, out)?;
-        self.lose_one(alloc, b, a, out)?;
+        self.lose_one(a, b, work)?;
+        self.lose_one(b, a, work)?;
         self.pipes.clear(b, a);
         self.pipes.clear(a, b);
         Ok(())
@@ -127,50 +117,38 @@ impl SwitchNet {
 
     // The first octets on their way come, one by one.
     #[tactic(auto, using(crate::proofs::LineLemmas::delivered_steps))]
-    fn deliver(
-        &mut self,
-        alloc: Global,
-        from: EdgeId,
-        to: EdgeId,
-        count: u16,
-        out: &mut List<SwitchEntry>,
-    ) -> Result<(), NoMemory>
-        requires from { from.0 < length self.old.row.plan.edges }
-        requires to { to.0 < length self.old.row.plan.edges }
+    fn deliver(&mut self, way: Way, count: u16, work: &mut AtLine) -> Result<(), NoMemory>
+        requires from { way.from.0 < length self.old.row.plan.edges }
+        requires to { way.to.0 < length self.old.row.plan.edges }
         requires reached { IsReached self.old }
         ensures plan { self.new.row.plan ≡ self.old.row.plan }
         ensures reached { OnOk result (IsReached self.new) }
-        ensures step { OnOk result (Makes self.old self.new out.old out.new (λ x. switch_delivers self.old.row.plan from.0 to.0 (take count (x.pipes from.0 to.0)) x) (λ x. deliver_entries self.old.row.plan from.0 to.0 (take count (x.pipes from.0 to.0)) x)) }
+        ensures step { OnOk result (Makes self.old self.new work.old.out work.new.out (λ x. switch_delivers self.old.row.plan way.from.0 way.to.0 (take count (x.pipes way.from.0 way.to.0)) x) (λ x. deliver_entries self.old.row.plan way.from.0 way.to.0 (take count (x.pipes way.from.0 way.to.0)) x)) }
     {
-        let mut used = self.row.used(alloc, to)?;
-        let most = self.pipes.front(from, to, count as usize).len();
+        let mut used = self.row.used(work.alloc, way.to)?;
+        let most = self.pipes.front(way.from, way.to, count as usize).len();
         for _octet in 0..most {
-            self.deliver_one(alloc, from, to, &mut used, out)?;
+            self.deliver_one(way, &mut used, work)?;
         }
         Ok(())
     }
 
     // So many times at most, all octets of the first pair come.
     #[tactic(auto, using(crate::proofs::LineLemmas::settled_steps))]
-    fn settle(
-        &mut self,
-        alloc: Global,
-        count: u16,
-        out: &mut List<SwitchEntry>,
-    ) -> Result<(), NoMemory>
+    fn settle(&mut self, count: u16, work: &mut AtLine) -> Result<(), NoMemory>
         requires reached { IsReached self.old }
         ensures plan { self.new.row.plan ≡ self.old.row.plan }
-        ensures step { OnOk result (Makes self.old self.new out.old out.new (settling self.old.row.plan count) (settle_entries self.old.row.plan count)) }
+        ensures step { OnOk result (Makes self.old self.new work.old.out work.new.out (settling self.old.row.plan count) (settle_entries self.old.row.plan count)) }
     {
         for _time in 0..count {
             match first_pair(&self.pipes) {
-                Some(pair) => self.deliver(
-                    alloc,
-                    EdgeId(pair.0 as u16),
-                    EdgeId(pair.1 as u16),
-                    MOST_AT_ONCE,
-                    out,
-                )?,
+                Some(pair) => {
+                    let way = Way {
+                        from: EdgeId(pair.0 as u16),
+                        to: EdgeId(pair.1 as u16),
+                    };
+                    self.deliver(way, MOST_AT_ONCE, work)?
+                }
                 None => return Ok(()),
             }
         }

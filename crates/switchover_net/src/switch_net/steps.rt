@@ -8,79 +8,98 @@ ghost use Rattle.switchover_net.specs.{Net.{IsReached, Makes}, Pipes.{bytes_of},
 ghost use Rattle.octet_pipes.specs.Pipes.{pipes_of};
 
 use crate::SwitchNet;
+use crate::at_line::AtLine;
 use crate::waiting::{is_waiting, put_all};
 use independent_mode::{IndepStop, Wish};
 use net_base::{EdgeId, LinkCall, List, NoMemory, WireId};
 use std::alloc::Global;
 use switchover_model::SwitchEntry;
 
+// A way that octets take.
+#[derive(Clone, Copy)]
+pub(crate) struct Way {
+    pub(crate) from: EdgeId,
+    pub(crate) to: EdgeId,
+}
+
+// What an edge is to call a wire.
+#[derive(Clone, Copy)]
+pub(crate) struct Setting {
+    pub(crate) edge: EdgeId,
+    pub(crate) wire: WireId,
+    pub(crate) wish: Wish,
+}
+
 impl SwitchNet {
     // An edge is connected with another one.
     #[tactic(auto, using(crate::proofs::NetLemmas::connected))]
     pub(crate) fn connect_one(
         &mut self,
-        alloc: Global,
         me: EdgeId,
         peer: EdgeId,
-        out: &mut List<SwitchEntry>,
+        work: &mut AtLine,
     ) -> Result<(), NoMemory>
         requires me { me.0 < length self.old.row.plan.edges }
         requires peer { peer.0 < length self.old.row.plan.edges }
         ensures plan { self.new.row.plan ≡ self.old.row.plan }
-        ensures step { OnOk result (Makes self.old self.new out.old out.new (connects_one self.old.row.plan me.0 peer.0) (connect_entries self.old.row.plan me.0 peer.0)) }
+        ensures step { OnOk result (Makes self.old self.new work.old.out work.new.out (connects_one self.old.row.plan me.0 peer.0) (connect_entries self.old.row.plan me.0 peer.0)) }
     {
-        let before = self.row.used(alloc, me)?;
-        let calls = match self.row.connect(alloc, me, peer) {
+        let before = self.row.used(work.alloc, me)?;
+        let calls = match self.row.connect(work.alloc, me, peer) {
             Ok(calls) => calls,
             Err(IndepStop::NoMemory) => return Err(NoMemory),
             Err(IndepStop::Link | IndepStop::Refused(_)) => unreachable!(),
         };
-        self.tell(alloc, me, peer, &calls, before.as_slice(), out)
+        self.tell(Way { from: me, to: peer }, &calls, before.as_slice(), work)
     }
 
     // An edge calls a wire something else, whose other end is the peer.
     #[tactic(auto, using(crate::proofs::NetLemmas::was_set))]
     pub(crate) fn set(
         &mut self,
-        alloc: Global,
-        me: EdgeId,
-        wire: WireId,
-        to: Wish,
+        to: Setting,
         peer: EdgeId,
-        out: &mut List<SwitchEntry>,
+        work: &mut AtLine,
     ) -> Result<(), NoMemory>
-        requires me { me.0 < length self.old.row.plan.edges }
+        requires me { to.edge.0 < length self.old.row.plan.edges }
         requires peer { peer.0 < length self.old.row.plan.edges }
-        requires ends { other_end self.old.row.plan me.0 wire.0 ≡ Some peer }
+        requires ends { other_end self.old.row.plan to.edge.0 to.wire.0 ≡ Some peer }
         ensures plan { self.new.row.plan ≡ self.old.row.plan }
-        ensures step { OnOk result (Makes self.old self.new out.old out.new (setting self.old.row.plan me.0 wire.0 to) (set_entries self.old.row.plan me.0 wire.0 to)) }
+        ensures step { OnOk result (Makes self.old self.new work.old.out work.new.out (setting self.old.row.plan to.edge.0 to.wire.0 to.wish) (set_entries self.old.row.plan to.edge.0 to.wire.0 to.wish)) }
     {
-        let before = self.row.used(alloc, me)?;
-        let calls = match self.row.set(alloc, me, wire, to) {
+        let before = self.row.used(work.alloc, to.edge)?;
+        let calls = match self.row.set(work.alloc, to.edge, to.wire, to.wish) {
             Ok(calls) => calls,
             Err(IndepStop::NoMemory) => return Err(NoMemory),
             Err(IndepStop::Link | IndepStop::Refused(_)) => unreachable!(),
         };
-        self.tell(alloc, me, peer, &calls, before.as_slice(), out)
+        self.tell(
+            Way {
+                from: to.edge,
+                to: peer,
+            },
+            &calls,
+            before.as_slice(),
+            work,
+        )
     }
 
     // An edge loses the connection with another one.
     #[tactic(auto, using(crate::proofs::NetLemmas::was_lost))]
     pub(crate) fn lose_one(
         &mut self,
-        alloc: Global,
         me: EdgeId,
         peer: EdgeId,
-        out: &mut List<SwitchEntry>,
+        work: &mut AtLine,
     ) -> Result<(), NoMemory>
         requires me { me.0 < length self.old.row.plan.edges }
         requires peer { peer.0 < length self.old.row.plan.edges }
         ensures plan { self.new.row.plan ≡ self.old.row.plan }
-        ensures step { OnOk result (Makes self.old self.new out.old out.new (loses_one self.old.row.plan me.0 peer.0) (lose_entries self.old.row.plan me.0 peer.0)) }
+        ensures step { OnOk result (Makes self.old self.new work.old.out work.new.out (loses_one self.old.row.plan me.0 peer.0) (lose_entries self.old.row.plan me.0 peer.0)) }
     {
-        let before = self.row.used(alloc, me)?;
+        let before = self.row.used(work.alloc, me)?;
         self.row.lose(me, peer);
-        self.tell_turned(me, before.as_slice(), out)
+        self.tell_turned(me, before.as_slice(), &mut work.out)
     }
 
     // One octet comes, where some is on its way. An octet that completes no PDU changes nothing that is told. Which wires the edge uses is
@@ -88,30 +107,36 @@ impl SwitchNet {
     #[tactic(auto, using(crate::proofs::NetLemmas::none_waits, crate::proofs::GrowthLemmas::octet_steps))]
     pub(crate) fn deliver_one(
         &mut self,
-        alloc: Global,
-        from: EdgeId,
-        to: EdgeId,
+        way: Way,
         used: &mut Vec<bool>,
-        out: &mut List<SwitchEntry>,
+        work: &mut AtLine,
     ) -> Result<(), NoMemory>
-        requires from { from.0 < length self.old.row.plan.edges }
-        requires to { to.0 < length self.old.row.plan.edges }
+        requires from { way.from.0 < length self.old.row.plan.edges }
+        requires to { way.to.0 < length self.old.row.plan.edges }
         requires reached { IsReached self.old }
-        requires used { used.old.items ≡ used_by self.old.row.plan to.0 (seen_row self.old.row to.0) }
+        requires used { used.old.items ≡ used_by self.old.row.plan way.to.0 (seen_row self.old.row way.to.0) }
         ensures plan { self.new.row.plan ≡ self.old.row.plan }
-        ensures used { OnOk result (used.new.items ≡ used_by self.new.row.plan to.0 (seen_row self.new.row to.0)) }
-        ensures step { OnOk result (Makes self.old self.new out.old out.new (delivers_one self.old.row.plan from.0 to.0) (hear_entries self.old.row.plan from.0 to.0)) }
+        ensures used { OnOk result (used.new.items ≡ used_by self.new.row.plan way.to.0 (seen_row self.new.row way.to.0)) }
+        ensures step { OnOk result (Makes self.old self.new work.old.out work.new.out (delivers_one self.old.row.plan way.from.0 way.to.0) (hear_entries self.old.row.plan way.from.0 way.to.0)) }
     {
-        if !is_waiting(&self.pipes, from.0 as usize, to.0 as usize) {
+        if !is_waiting(&self.pipes, way.from.0 as usize, way.to.0 as usize) {
             return Ok(());
         }
-        let held = self.row.held(to, from);
-        let calls = self.hear_one(alloc, from, to)?;
-        if self.row.held(to, from) > held {
+        let held = self.row.held(way.to, way.from);
+        let calls = self.hear_one(work.alloc, way.from, way.to)?;
+        if self.row.held(way.to, way.from) > held {
             return Ok(());
         }
-        self.tell(alloc, to, from, &calls, used.as_slice(), out)?;
-        *used = self.row.used(alloc, to)?;
+        self.tell(
+            Way {
+                from: way.to,
+                to: way.from,
+            },
+            &calls,
+            used.as_slice(),
+            work,
+        )?;
+        *used = self.row.used(work.alloc, way.to)?;
         Ok(())
     }
 
@@ -146,23 +171,21 @@ impl SwitchNet {
     // What an edge has put goes on its way to the peer, and is told, and then which wires it uses from now on or no more.
     fn tell(
         &mut self,
-        alloc: Global,
-        me: EdgeId,
-        peer: EdgeId,
+        way: Way,
         calls: &List<LinkCall>,
         before: &[bool],
-        out: &mut List<SwitchEntry>,
+        work: &mut AtLine,
     ) -> Result<(), NoMemory>
-        requires me { me.0 < length self.old.row.plan.edges }
-        requires peer { peer.0 < length self.old.row.plan.edges }
+        requires me { way.from.0 < length self.old.row.plan.edges }
+        requires peer { way.to.0 < length self.old.row.plan.edges }
         requires before { length before.now ≡ length self.old.row.plan.wires }
         ensures row { self.new.row ≡ self.old.row }
-        ensures pipes { OnOk result (pipes_of self.new.pipes ≡ at_two me.0 peer.0 (pipes_of self.old.pipes me.0 peer.0 ++ bytes_of calls.now) (pipes_of self.old.pipes)) }
-        ensures out { OnOk result (out.new ≡ (out.old ++ said_entries me.0 calls.now) ++ turned_all me.0 0 before.now (used_by self.old.row.plan me.0 (seen_row self.old.row me.0))) }
+        ensures pipes { OnOk result (pipes_of self.new.pipes ≡ at_two way.from.0 way.to.0 (pipes_of self.old.pipes way.from.0 way.to.0 ++ bytes_of calls.now) (pipes_of self.old.pipes)) }
+        ensures out { OnOk result (work.new.out ≡ (work.old.out ++ said_entries way.from.0 calls.now) ++ turned_all way.from.0 0 before.now (used_by self.old.row.plan way.from.0 (seen_row self.old.row way.from.0))) }
     {
-        put_all(&mut self.pipes, me, peer, calls.as_slice())?;
-        say_all(alloc, me, calls.as_slice(), out)?;
-        self.tell_turned(me, before, out)
+        put_all(&mut self.pipes, way.from, way.to, calls.as_slice())?;
+        say_all(work.alloc, way.from, calls.as_slice(), &mut work.out)?;
+        self.tell_turned(way.from, before, &mut work.out)
     }
 
     // The wires that an edge uses otherwise than before are told, in the order of the plan.

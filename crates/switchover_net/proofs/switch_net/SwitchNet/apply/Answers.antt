@@ -28,29 +28,29 @@ unreachable-requires c =
 pub returns-in-Connect-clause-step : goal.returns-in-Connect-clause-step
 returns-in-Connect-clause-step c =
     subst (λ (l : SwitchLine). OnOk c.connect.result
-    (Makes c.args.self.now c.connect.new.self c.args.out.now c.connect.new.out (does c.args.self.now.row.plan l) (entries c.args.self.now.row.plan l))) (sym c.in-Connect.is)
+    (Makes c.args.self.now c.connect.new.self c.args.work.now.out c.connect.new.work.out (does c.args.self.now.row.plan l) (entries c.args.self.now.row.plan l))) (sym c.in-Connect.is)
     (ok_then c.connect.result
-    (λ made. made_as c.args.self.now.row.plan (line.Connect c.in-Connect.edge c.in-Connect.peer) c.args.self.now c.connect.new.self c.args.out.now c.connect.new.out
+    (λ made. made_as c.args.self.now.row.plan (line.Connect c.in-Connect.edge c.in-Connect.peer) c.args.self.now c.connect.new.self c.args.work.now.out c.connect.new.work.out
     (switch_connecting c.args.self.now.row.plan c.in-Connect.edge.0 c.in-Connect.peer.0)
     (pair_entries c.args.self.now.row.plan c.in-Connect.edge.0 c.in-Connect.peer.0) (λ x. refl) (λ x. refl) made)
     c.connect.ensures.step)
 
 pub returns-in-Cut-clause-step : goal.returns-in-Cut-clause-step
 returns-in-Cut-clause-step c =
-    subst (λ (l : SwitchLine). OnOk c.cut.result (Makes c.args.self.now c.cut.new.self c.args.out.now c.cut.new.out (does c.args.self.now.row.plan l)
+    subst (λ (l : SwitchLine). OnOk c.cut.result (Makes c.args.self.now c.cut.new.self c.args.work.now.out c.cut.new.work.out (does c.args.self.now.row.plan l)
     (entries c.args.self.now.row.plan l))) (sym c.in-Cut.is)
     (ok_then c.cut.result
-    (λ made. made_as c.args.self.now.row.plan (line.Cut c.in-Cut.edge c.in-Cut.peer) c.args.self.now c.cut.new.self c.args.out.now c.cut.new.out
+    (λ made. made_as c.args.self.now.row.plan (line.Cut c.in-Cut.edge c.in-Cut.peer) c.args.self.now c.cut.new.self c.args.work.now.out c.cut.new.work.out
     (cutting c.args.self.now.row.plan c.in-Cut.edge.0 c.in-Cut.peer.0)
     (cut_entries c.args.self.now.row.plan c.in-Cut.edge.0 c.in-Cut.peer.0) (λ x. refl) (λ x. refl) made)
     c.cut.ensures.step)
 
 pub returns-in-Some-clause-step : goal.returns-in-Some-clause-step
 returns-in-Some-clause-step c =
-    subst (λ (l : SwitchLine). OnOk c.set.result (Makes c.args.self.now c.set.new.self c.args.out.now c.set.new.out (does c.args.self.now.row.plan l)
+    subst (λ (l : SwitchLine). OnOk c.set.result (Makes c.args.self.now c.set.new.self c.args.work.now.out c.set.new.work.out (does c.args.self.now.row.plan l)
     (entries c.args.self.now.row.plan l))) (sym c.in-Set.is)
     (ok_then c.set.result
-    (λ made. made_as c.args.self.now.row.plan (line.Set c.in-Set.edge c.in-Set.wire c.in-Set.wish) c.args.self.now c.set.new.self c.args.out.now c.set.new.out
+    (λ made. made_as c.args.self.now.row.plan (line.Set c.in-Set.edge c.in-Set.wire c.in-Set.wish) c.args.self.now c.set.new.self c.args.work.now.out c.set.new.work.out
     (setting c.args.self.now.row.plan c.in-Set.edge.0 c.in-Set.wire.0 c.in-Set.wish)
     (set_entries c.args.self.now.row.plan c.in-Set.edge.0 c.in-Set.wire.0 c.in-Set.wish) (λ x. refl) (λ x. refl) made)
     c.set.ensures.step)

@@ -12,21 +12,21 @@ use Rattle.switchover_net.proofs.switch_net.SwitchNet.deliver_one.Goals as goal
 
 pub returns-then-held-clause-used : goal.returns-then-held-clause-used
 returns-then-held-clause-used c =
-    still_used c.args.self.now.row.plan c.args.to.0 c.args.from c.args.self.now c.hear_one.new.self c.in_ok-calls.calls c.held-held.result c.held.result c.hear_one.ensures.going c.in_ok-calls.ensures.row
-    (subst (λ (n : SwitchLists). HoldsBy c.held-held.result ((seen_row n.row c.args.to.0).connection c.args.from.0)) c.self.view_is c.held-held.ensures)
-    (subst (λ (n : SwitchLists). HoldsBy c.held.result ((seen_row n.row c.args.to.0).connection c.args.from.0)) c.self-2.view_is c.held.ensures) (omega (arith, c.if-held.true))
+    still_used c.args.self.now.row.plan c.args.way.to.0 c.args.way.from c.args.self.now c.hear_one.new.self c.in_ok-calls.calls c.held-held.result c.held.result c.hear_one.ensures.going c.in_ok-calls.ensures.row
+    (subst (λ (n : SwitchLists). HoldsBy c.held-held.result ((seen_row n.row c.args.way.to.0).connection c.args.way.from.0)) c.self.view_is c.held-held.ensures)
+    (subst (λ (n : SwitchLists). HoldsBy c.held.result ((seen_row n.row c.args.way.to.0).connection c.args.way.from.0)) c.self-2.view_is c.held.ensures) (omega (arith, c.if-held.true))
     c.args.used.now.items c.hear_one.ensures.plan c.requires.used
 
 pub returns-then-held-clause-step : goal.returns-then-held-clause-step
 returns-then-held-clause-step c =
-    let waits : is_waiting (pipes_of c.args.self.now.pipes c.args.from.0 c.args.to.0) ≡ true = search rules in
-    was_silent c.args.self.now.row.plan c.args.to.0 c.args.from c.args.self.now c.hear_one.new.self c.in_ok-calls.calls c.held-held.result c.held.result c.hear_one.ensures.going c.in_ok-calls.ensures.row
-    (subst (λ (n : SwitchLists). HoldsBy c.held-held.result ((seen_row n.row c.args.to.0).connection c.args.from.0)) c.self.view_is c.held-held.ensures)
-    (subst (λ (n : SwitchLists). HoldsBy c.held.result ((seen_row n.row c.args.to.0).connection c.args.from.0)) c.self-2.view_is c.held.ensures) (omega (arith, c.if-held.true))
-    c.args.out.now waits c.hear_one.ensures.pipes
+    let waits : is_waiting (pipes_of c.args.self.now.pipes c.args.way.from.0 c.args.way.to.0) ≡ true = search rules in
+    was_silent c.args.self.now.row.plan c.args.way.to.0 c.args.way.from c.args.self.now c.hear_one.new.self c.in_ok-calls.calls c.held-held.result c.held.result c.hear_one.ensures.going c.in_ok-calls.ensures.row
+    (subst (λ (n : SwitchLists). HoldsBy c.held-held.result ((seen_row n.row c.args.way.to.0).connection c.args.way.from.0)) c.self.view_is c.held-held.ensures)
+    (subst (λ (n : SwitchLists). HoldsBy c.held.result ((seen_row n.row c.args.way.to.0).connection c.args.way.from.0)) c.self-2.view_is c.held.ensures) (omega (arith, c.if-held.true))
+    c.args.work.now.out waits c.hear_one.ensures.pipes
 
 pub tell-requires-clause-before : goal.tell-requires-clause-before
 tell-requires-clause-before c =
     ap (λ (l : List Bool). length l) (c.as_slice.ensures.value ∙ c.requires.used)
-    ∙ (used_long c.args.self.now.row.plan c.args.to.0 0 (length c.args.self.now.row.plan.wires) (seen_row c.args.self.now.row c.args.to.0)
+    ∙ (used_long c.args.self.now.row.plan c.args.way.to.0 0 (length c.args.self.now.row.plan.wires) (seen_row c.args.self.now.row c.args.way.to.0)
     ∙ ap (λ (p : Plan). length p.wires) (sym c.hear_one.ensures.plan))

@@ -12,13 +12,13 @@ use Rattle.switchover_net.proofs.switch_net.SwitchNet.set.Goals as goal
 
 pub returns-clause-step : goal.returns-clause-step
 returns-clause-step c =
-    subst (λ (n : SwitchLists). OnOk c.tell.result (Makes n c.tell.new.self c.args.out.now c.tell.new.out (setting n.row.plan c.args.me.0 c.args.wire.0 c.args.to)
-    (set_entries n.row.plan c.args.me.0 c.args.wire.0 c.args.to))) c.self.view_is
+    subst (λ (n : SwitchLists). OnOk c.tell.result (Makes n c.tell.new.self c.args.work.now.out c.tell.new.work.out (setting n.row.plan c.args.to.edge.0 c.args.to.wire.0 c.args.to.wish)
+    (set_entries n.row.plan c.args.to.edge.0 c.args.to.wire.0 c.args.to.wish))) c.self.view_is
     (ok_both c.tell.result
-    (λ put told. was_set (the_view c.self.inside).row.plan c.args.me.0 c.args.wire.0 c.args.peer c.args.to
-    (the_view c.self.inside) c.tell.new.self c.set.new.self c.in-Ok.calls c.as_slice.result.now c.args.out.now c.tell.new.out
-    (subst (λ (n : SwitchLists). other_end n.row.plan c.args.me.0 c.args.wire.0 ≡ Some c.args.peer) (sym c.self.view_is) c.requires.ends)
+    (λ put told. was_set (the_view c.self.inside).row.plan c.args.to.edge.0 c.args.to.wire.0 c.args.peer c.args.to.wish
+    (the_view c.self.inside) c.tell.new.self c.set.new.self c.in-Ok.calls c.as_slice.result.now c.args.work.now.out c.tell.new.work.out
+    (subst (λ (n : SwitchLists). other_end n.row.plan c.args.to.edge.0 c.args.to.wire.0 ≡ Some c.args.peer) (sym c.self.view_is) c.requires.ends)
     c.in-Ok.ensures.step c.tell.ensures.row (c.as_slice.ensures.value ∙ c.in_ok-before.ensures.used) put
-    (told ∙ ap (λ (p : Plan). (c.args.out.now ++ said_entries c.args.me.0 c.in-Ok.calls) ++ turned_all c.args.me.0 0 c.as_slice.result.now
-    (used p c.args.me.0 (seen_row c.set.new.self c.args.me.0))) c.in-Ok.ensures.plan))
+    (told ∙ ap (λ (p : Plan). (c.args.work.now.out ++ said_entries c.args.to.edge.0 c.in-Ok.calls) ++ turned_all c.args.to.edge.0 0 c.as_slice.result.now
+    (used p c.args.to.edge.0 (seen_row c.set.new.self c.args.to.edge.0))) c.in-Ok.ensures.plan))
     c.tell.ensures.pipes c.tell.ensures.out)

@@ -9,7 +9,7 @@ use Rattle.switchover_net.proofs.switch_net.SwitchNet.settle.Goals as goal
 pub returns-in-None-clause-step : goal.returns-in-None-clause-step
 returns-in-None-clause-step c =
     let below : c.loop-time._time < c.args.count = omega (arith, c.loop-time-test.true) in
-    settled_none c.args.self.now.row.plan c.args.count c.loop-time._time c.args.self.now c.loop-time.self c.args.out.now c.loop-time.out below
+    settled_none c.args.self.now.row.plan c.args.count c.loop-time._time c.args.self.now c.loop-time.self c.args.work.now.out c.loop-time.work.out below
     (subst (λ (n : SwitchLists). n.pipes.size ≡ length n.row.plan.edges) c.self.view_is c.self.invariant.size)
     (subst (λ (n : SwitchLists). None ≡ first_differing_pair (λ from to. is_waiting (pipes_of n.pipes from to)) n.pipes.size 0 n.pipes.size) c.self.view_is
     (sym c.in-None.is ∙ c.first_pair.ensures.first)) c.loop-time.invariant
@@ -18,7 +18,7 @@ pub loop-time-preserved : goal.loop-time-preserved
 loop-time-preserved c =
     let below : c.loop-time._time < c.args.count = omega (arith, c.loop-time-test.true) in
     settled_more c.args.self.now.row.plan c.args.count c.loop-time._time (record { 0 = c.in-Some.pair.0 })
-    (record { 0 = c.in-Some.pair.1 }) c.args.self.now c.loop-time.self c.deliver.new.self c.args.out.now c.loop-time.out c.deliver.new.out below
+    (record { 0 = c.in-Some.pair.1 }) c.args.self.now c.loop-time.self c.deliver.new.self c.args.work.now.out c.loop-time.work.out c.deliver.new.work.out below
     (subst (λ (n : SwitchLists). n.pipes.size ≡ length n.row.plan.edges) c.self.view_is c.self.invariant.size)
     (subst (λ (n : SwitchLists). Some (c.in-Some.pair.0, c.in-Some.pair.1) ≡ first_differing_pair (λ from to. is_waiting (pipes_of n.pipes from to)) n.pipes.size 0 n.pipes.size) c.self.view_is
     (sym c.in-Some.is ∙ c.first_pair.ensures.first))
@@ -27,4 +27,4 @@ loop-time-preserved c =
 pub returns-clause-step : goal.returns-clause-step
 returns-clause-step c =
     let past : c.args.count ≤ c.loop-time._time = omega (arith, c.loop-time-test.false) in
-    settled_all c.args.self.now.row.plan c.args.count c.loop-time._time c.args.self.now c.loop-time.self c.args.out.now c.loop-time.out past c.loop-time.invariant
+    settled_all c.args.self.now.row.plan c.args.count c.loop-time._time c.args.self.now c.loop-time.self c.args.work.now.out c.loop-time.work.out past c.loop-time.invariant
