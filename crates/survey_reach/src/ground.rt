@@ -1,5 +1,7 @@
 //! The ground of a network.
 use crate::EdgePairs;
+use net_base::Plan;
+use survey_laws::Fault;
 
 /// What of a network decides whom a frame reaches once all has settled. `survey_net` takes it from a network.
 #[derive(Drop)]
@@ -14,4 +16,12 @@ pub struct Ground {
     pub connected: EdgePairs,
     /// Of each edge, whether it has a label to give.
     pub labels: Vec<bool>,
+}
+
+/// The ground of a network on which faults have befallen.
+#[derive(Clone, Copy)]
+pub struct FailedGround<'a> {
+    pub plan: &'a Plan,
+    pub ground: &'a Ground,
+    pub faults: &'a [Fault],
 }

@@ -16,7 +16,7 @@ mod word;
 
 pub use edge_pairs::EdgePairs;
 pub use fault_list::all_faults;
-pub use ground::Ground;
+pub use ground::{FailedGround, Ground};
 pub use reach::Reaching;
 pub use shape::Shape;
 pub use word::{has_bit, in_both, with_bit, without};

@@ -8,12 +8,11 @@ ghost use Rattle.survey_reach.specs.Reach.{AreCores, AreMeshes, HasBefallen, IsS
 
 use crate::loss::{is_taken, number_after};
 use crate::met::rows;
-use crate::{EdgePairs, Ground, Shape};
+use crate::{EdgePairs, FailedGround, Shape};
 use edge_model::EndPlace;
 use net_base::{Class, EdgeId, NoMemory, Plan, ServiceId, WirePlan, first_of, last_of};
 use spoke_redundancy::{Spoke, choose};
 use std::alloc::Global;
-use survey_laws::Fault;
 
 /// Room in which it is worked out whom each edge would reach.
 #[derive(Drop)]
@@ -28,59 +27,34 @@ pub struct Reaching {
 
 // Whether a wire would be sound.
 #[tactic(auto, using(crate::proofs::GroundLemmas::sound_steps))]
-fn would_be_sound(plan: &Plan, ground: &Ground, faults: &[Fault], wire: usize) -> bool
+fn would_be_sound(failed: FailedGround<'_>, wire: usize) -> bool
     ghost before: { NetworkState }
-    requires ground { IsGroundOf plan.now before ground.now }
-    requires wire { wire < length plan.now.wires }
-    ensures { result ≡ would_be_sound plan.now before faults.now wire }
+    requires ground { IsGroundOf failed.plan.now before failed.ground.now }
+    requires wire { wire < length failed.plan.now.wires }
+    ensures { result ≡ would_be_sound failed.entry.plan.now before failed.entry.faults.now wire }
 {
-    match plan.wires.get(wire) {
-        Some(row) => ground.sound[wire] && !is_taken(faults, wire, row),
+    match failed.plan.wires.get(wire) {
+        Some(row) => failed.ground.sound[wire] && !is_taken(failed.faults, wire, row),
         None => false,
     }
 }
 
-// Of each wire, whether it would be sound.
-#[tactic(auto, using(crate::proofs::RowLemmas::filled_none, crate::proofs::RowLemmas::filled_more))]
-fn fill_sound(
-    sound: &mut Vec<bool>,
-    plan: &Plan,
-    ground: &Ground,
-    faults: &[Fault],
-) -> Result<(), NoMemory>
-    ghost before: { NetworkState }
-    requires ground { IsGroundOf plan.now before ground.now }
-    ensures { OnOk result (IsFilled (would_be_sound plan.now before faults.now) false (length plan.now.wires) sound.new.items) }
-{
-    sound.truncate(0);
-    for wire in 0..plan.wires.len() {
-        sound.push(would_be_sound(plan, ground, faults, wire))?;
-    }
-    Ok(())
-}
-
 // A spoke as the choice of its edge would see it.
 #[tactic(auto, using(crate::proofs::GroundLemmas::spoke_steps))]
-fn spoke_at(
-    plan: &Plan,
-    ground: &Ground,
-    sound: &[bool],
-    faults: &[Fault],
-    place: EndPlace,
-) -> Spoke
+fn spoke_at(failed: FailedGround<'_>, sound: &[bool], place: EndPlace) -> Spoke
     ghost before: { NetworkState }
-    requires ground { IsGroundOf plan.now before ground.now }
-    requires sound { IsFilled (would_be_sound plan.now before faults.now) false (length plan.now.wires) sound.now }
-    ensures { result ≡ spoke_by plan.now before faults.now place }
+    requires ground { IsGroundOf failed.plan.now before failed.ground.now }
+    requires sound { IsFilled (would_be_sound failed.plan.now before failed.faults.now) false (length failed.plan.now.wires) sound.now }
+    ensures { result ≡ spoke_by failed.entry.plan.now before failed.entry.faults.now place }
 {
     let wire = place.wire.0 as usize;
-    match plan.wires.get(wire) {
+    match failed.plan.wires.get(wire) {
         Some(_) => Spoke {
-            priority: number_after(wire, faults, ground.numbers[wire]),
+            priority: number_after(wire, failed.faults, failed.ground.numbers[wire]),
             usable: sound[wire],
         },
         None => Spoke {
-            priority: number_after(wire, faults, 0),
+            priority: number_after(wire, failed.faults, 0),
             usable: false,
         },
     }
@@ -89,20 +63,18 @@ fn spoke_at(
 // The spokes of an edge as its choice would see them.
 fn fill_spokes(
     spokes: &mut Vec<Spoke>,
-    plan: &Plan,
-    ground: &Ground,
+    failed: FailedGround<'_>,
     sound: &[bool],
-    faults: &[Fault],
     places: &[EndPlace],
 ) -> Result<(), NoMemory>
     ghost before: { NetworkState }
-    requires ground { IsGroundOf plan.now before ground.now }
-    requires sound { IsFilled (would_be_sound plan.now before faults.now) false (length plan.now.wires) sound.now }
-    ensures { OnOk result (spokes.new.items ≡ map (spoke_by plan.now before faults.now) places.now) }
+    requires ground { IsGroundOf failed.plan.now before failed.ground.now }
+    requires sound { IsFilled (would_be_sound failed.plan.now before failed.faults.now) false (length failed.plan.now.wires) sound.now }
+    ensures { OnOk result (spokes.new.items ≡ map (spoke_by failed.entry.plan.now before failed.entry.faults.now) places.now) }
 {
     spokes.truncate(0);
     for place in places {
-        spokes.push(spoke_at(plan, ground, sound, faults, *place))?;
+        spokes.push(spoke_at(failed, sound, *place))?;
     }
     Ok(())
 }
@@ -203,97 +175,83 @@ impl Reaching {
     }
 
     /// Lets faults befall the ground.
-    pub fn befall(&mut self, plan: &Plan, ground: &Ground, faults: &[Fault]) -> Result<(), NoMemory>
+    #[tactic(auto, using(crate::proofs::RowLemmas::filled_none, crate::proofs::RowLemmas::filled_more))]
+    pub fn befall(&mut self, failed: FailedGround<'_>) -> Result<(), NoMemory>
         ghost before: { NetworkState }
-        requires { IsGroundOf plan.now before ground.now }
-        ensures { OnOk result (HasBefallen plan.now before faults.now self.new) }
+        requires { IsGroundOf failed.plan.now before failed.ground.now }
+        ensures { OnOk result (HasBefallen failed.entry.plan.now before failed.entry.faults.now self.new) }
     {
-        fill_sound(&mut self.sound, plan, ground, faults)
+        self.sound.truncate(0);
+        for wire in 0..failed.plan.wires.len() {
+            self.sound.push(would_be_sound(failed, wire))?;
+        }
+        Ok(())
     }
 
     // The core edge of a spoke edge with these spokes.
     #[tactic(auto, using(crate::proofs::GroundLemmas::home_by))]
     fn home(
         &mut self,
-        plan: &Plan,
-        ground: &Ground,
-        faults: &[Fault],
+        failed: FailedGround<'_>,
         service: ServiceId,
         edge: usize,
         places: &[EndPlace],
     ) -> Result<Option<EdgeId>, NoMemory>
         ghost before: { NetworkState }
-        requires checked { IsChecked plan.now }
-        requires ground { IsGroundOf plan.now before ground.now }
-        requires sound { HasBefallen plan.now before faults.now self.old }
-        requires places { places.now ≡ spokes_at plan.now service edge }
-        ensures home { IfOk result (λ core. place_of core ≡ would_home plan.now before faults.now service edge) }
+        requires checked { IsChecked failed.plan.now }
+        requires ground { IsGroundOf failed.plan.now before failed.ground.now }
+        requires sound { HasBefallen failed.plan.now before failed.faults.now self.old }
+        requires places { places.now ≡ spokes_at failed.plan.now service edge }
+        ensures home { IfOk result (λ core. place_of core ≡ would_home failed.entry.plan.now before failed.entry.faults.now service edge) }
         ensures few { IfOk result (λ core. IfSome core (λ edge. edge.0 < 64)) }
         ensures sound { self.new.sound.items ≡ self.old.sound.items }
         ensures cores { self.new.cores.items ≡ self.old.cores.items }
     {
-        fill_spokes(
-            &mut self.spokes,
-            plan,
-            ground,
-            self.sound.as_slice(),
-            faults,
-            places,
-        )?;
-        Ok(home_among(plan, self.spokes.as_slice(), places))
+        fill_spokes(&mut self.spokes, failed, self.sound.as_slice(), places)?;
+        Ok(home_among(failed.plan, self.spokes.as_slice(), places))
     }
 
     // The core edge of an edge: itself, where it starts no spokes.
     fn core(
         &mut self,
-        plan: &Plan,
-        ground: &Ground,
-        faults: &[Fault],
+        failed: FailedGround<'_>,
         shape: &Shape,
         edge: usize,
     ) -> Result<Option<EdgeId>, NoMemory>
         ghost before: { NetworkState }
-        requires checked { IsChecked plan.now }
-        requires ground { IsGroundOf plan.now before ground.now }
-        requires sound { HasBefallen plan.now before faults.now self.old }
-        requires shape { IsShapeOf plan.now shape.now.service shape.now }
-        requires edge { edge < length plan.now.edges }
-        ensures core { IfOk result (λ core. place_of core ≡ would_core plan.now before faults.now shape.now.service edge) }
+        requires checked { IsChecked failed.plan.now }
+        requires ground { IsGroundOf failed.plan.now before failed.ground.now }
+        requires sound { HasBefallen failed.plan.now before failed.faults.now self.old }
+        requires shape { IsShapeOf failed.plan.now shape.now.service shape.now }
+        requires edge { edge < length failed.plan.now.edges }
+        ensures core { IfOk result (λ core. place_of core ≡ would_core failed.entry.plan.now before failed.entry.faults.now shape.now.service edge) }
         ensures few { IfOk result (λ core. IfSome core (λ edge. edge.0 < 64)) }
         ensures sound { self.new.sound.items ≡ self.old.sound.items }
         ensures cores { self.new.cores.items ≡ self.old.cores.items }
     {
-        if !starts_spokes(plan, shape, edge) {
+        if !starts_spokes(failed.plan, shape, edge) {
             return Ok(Some(EdgeId(edge as u16)));
         }
         match shape.spokes.get(edge) {
-            Some(places) => {
-                self.home(plan, ground, faults, shape.service, edge, places.as_slice())
-            }
+            Some(places) => self.home(failed, shape.service, edge, places.as_slice()),
             None => Ok(None),
         }
     }
 
     // The core edge of each edge.
     #[tactic(auto, using(crate::proofs::RowLemmas::cores_none, crate::proofs::RowLemmas::cores_more))]
-    fn fill_cores(
-        &mut self,
-        plan: &Plan,
-        ground: &Ground,
-        faults: &[Fault],
-        shape: &Shape,
-    ) -> Result<(), NoMemory>
+    fn fill_cores(&mut self, failed: FailedGround<'_>, shape: &Shape) -> Result<(), NoMemory>
         ghost before: { NetworkState }
-        requires checked { IsChecked plan.now }
-        requires ground { IsGroundOf plan.now before ground.now }
-        requires sound { HasBefallen plan.now before faults.now self.old }
-        requires shape { IsShapeOf plan.now shape.now.service shape.now }
-        ensures cores { OnOk result (AreCores plan.now before faults.now shape.now.service (length plan.now.edges) self.new.cores.items) }
+        requires checked { IsChecked failed.plan.now }
+        requires ground { IsGroundOf failed.plan.now before failed.ground.now }
+        requires sound { HasBefallen failed.plan.now before failed.faults.now self.old }
+        requires shape { IsShapeOf failed.plan.now shape.now.service shape.now }
+        ensures cores { OnOk result (AreCores failed.entry.plan.now before failed.entry.faults.now shape.now.service (length failed.entry.plan.now.edges) self.new.cores.items) }
         ensures sound { self.new.sound.items ≡ self.old.sound.items }
     {
         self.cores.truncate(0);
-        for edge in 0..plan.edges.len() {
-            let core = self.core(plan, ground, faults, shape, edge)?;
+        for edge in 0..failed.plan.edges.len() {
+            let core = self.core(failed, shape, edge)?;
             self.cores.push(core)?;
         }
         Ok(())
@@ -301,23 +259,17 @@ impl Reaching {
 
     /// Whom each edge would reach in a service, under the faults that have befallen the ground.
     #[tactic(auto, using(crate::proofs::HomeLemmas::reached))]
-    pub fn of(
-        &mut self,
-        plan: &Plan,
-        ground: &Ground,
-        faults: &[Fault],
-        shape: &Shape,
-    ) -> Result<EdgePairs, NoMemory>
+    pub fn of(&mut self, failed: FailedGround<'_>, shape: &Shape) -> Result<EdgePairs, NoMemory>
         ghost before: { NetworkState }
-        requires checked { IsChecked plan.now }
-        requires ground { IsGroundOf plan.now before ground.now }
-        requires befallen { HasBefallen plan.now before faults.now self.old }
-        requires shape { IsShapeOf plan.now shape.now.service shape.now }
-        ensures reach { IfOk result (λ pairs. (a b : ℕ) → has_pair pairs a b ≡ reaches plan.now before faults.now shape.now.service a b) }
-        ensures befallen { HasBefallen plan.now before faults.now self.new }
+        requires checked { IsChecked failed.plan.now }
+        requires ground { IsGroundOf failed.plan.now before failed.ground.now }
+        requires befallen { HasBefallen failed.plan.now before failed.faults.now self.old }
+        requires shape { IsShapeOf failed.plan.now shape.now.service shape.now }
+        ensures reach { IfOk result (λ pairs. (a b : ℕ) → has_pair pairs a b ≡ reaches failed.entry.plan.now before failed.entry.faults.now shape.now.service a b) }
+        ensures befallen { HasBefallen failed.entry.plan.now before failed.entry.faults.now self.new }
     {
-        self.fill_cores(plan, ground, faults, shape)?;
-        let meshes = meshes(plan, self.sound.as_slice(), shape.service);
+        self.fill_cores(failed, shape)?;
+        let meshes = meshes(failed.plan, self.sound.as_slice(), shape.service);
         Ok(rows(&meshes, self.cores.as_slice()))
     }
 }

@@ -9,6 +9,7 @@ use Rattle.net_base.specs.declared.plan.Plan.{Plan}
 use Rattle.net_base.specs.declared.plan.places.ServiceId.{ServiceId}
 use Rattle.network_model.specs.State.{NetworkState}
 use Rattle.survey_laws.specs.declared.fault.Fault.{Fault}
+use Rattle.survey_laws.specs.declared.fault.Fault.TheVariants as fault
 use Rattle.survey_reach.specs.declared.shape.Shape.{Shape}
 use Rattle.survey_reach.specs.FaultList.{all_faults}
 use Rattle.survey_reach.specs.Reach.{IsShapeOf}
@@ -16,7 +17,7 @@ use Rattle.survey_text.specs.declared.change.Change.{Change}
 use Rattle.survey_text.specs.declared.known.Alone.{Alone}
 use Rattle.survey_text.specs.declared.known.Known.{Known}
 use Rattle.survey_text.specs.declared.service.Service.{Service}
-use Rattle.survey_text.specs.Surveys.{AreAllKnown, AreLeft, AreServices, AreShapes, IsFaultAt, IsKnown, IsService}
+use Rattle.survey_text.specs.Surveys.{AreAllKnown, AreLeft, AreServices, AreShapes, IsKnown, IsService, fault_in}
 use Rattle.survey_text.proofs.LeftLemmas.{ArePlaced, placed_more}
 
 -- the service at a place
@@ -83,17 +84,17 @@ made_end plan before services rest are none = record {
 
 -- ---- what each fault changes alone
 
-pub alone_known : (plan : Plan) (before : NetworkState) (known : Known) (place : ℕ) (fault : Fault) (alone : Alone) → AreAllKnown plan before known → IsFaultAt known place fault
-    → alone ≡ slice_index_or known.alone.items place alone → AreLeft plan before (fault ∷ []) [] alone.changes.items
-alone_known plan before known place fault alone is at read =
-    subst (λ (f : Fault). AreLeft plan before (f ∷ []) [] alone.changes.items) (sym (at.is ∙ ap (λ (l : List Fault). slice_index_or l place fault) is.faults))
-    (subst (λ (a : Alone). AreLeft plan before (slice_index_or (all_faults plan before) place fault ∷ []) [] a.changes.items) (sym read)
-    (is.alone place fault alone (omega (arith, at.within, ap (λ (l : List Fault). length l) is.faults))))
+pub alone_known : (plan : Plan) (before : NetworkState) (known : Known) (place : ℕ) (alone : Alone) → AreAllKnown plan before known → place < length known.faults
+    → alone ≡ slice_index_or known.alone.items place alone → AreLeft plan before (fault_in known.faults place ∷ []) [] alone.changes.items
+alone_known plan before known place alone is within read =
+    subst (λ (l : List Fault). AreLeft plan before (fault_in l place ∷ []) [] alone.changes.items) (sym is.faults)
+    (subst (λ (a : Alone). AreLeft plan before (fault_in (all_faults plan before) place ∷ []) [] a.changes.items) (sym read)
+    (is.alone place (fault.Edge (record { 0 = 0 })) alone (omega (arith, within, ap (λ (l : List Fault). length l) is.faults))))
 
-pub kept : (plan : Plan) (before : NetworkState) (known new : Known) (fault : Fault) (changes : List Change) (alone : Alone) → IsKnown plan before (length known.alone.items) known
-    → AreLeft plan before (fault ∷ []) [] changes → IsFaultAt known (length known.alone.items) fault → alone.changes.items ≡ changes → new.services.items ≡ known.services.items
-    → new.faults ≡ known.faults → new.alone.items ≡ known.alone.items ++ alone ∷ [] → IsKnown plan before (length known.alone.items + 1) new
-kept plan before known new fault changes alone is left at held services faults pushed = record {
+pub kept : (plan : Plan) (before : NetworkState) (known new : Known) (changes : List Change) (alone : Alone) → IsKnown plan before (length known.alone.items) known
+    → AreLeft plan before (fault_in known.faults (length known.alone.items) ∷ []) [] changes → length known.alone.items < length known.faults → alone.changes.items ≡ changes
+    → new.services.items ≡ known.services.items → new.faults ≡ known.faults → new.alone.items ≡ known.alone.items ++ alone ∷ [] → IsKnown plan before (length known.alone.items + 1) new
+kept plan before known new changes alone is left below_all held services faults pushed = record {
   services = subst (AreServices plan before) (sym services) is.services;
   faults = faults ∙ is.faults;
   counted = ap (λ (l : List Alone). length l) pushed ∙ longer;
@@ -106,16 +107,16 @@ kept plan before known new fault changes alone is left at held services faults p
     longer = grind (arith, length_push known.alone.items alone)
 
     within : length known.alone.items < length (all_faults plan before)
-    within = omega (arith, at.within, ap (λ (l : List Fault). length l) is.faults)
+    within = omega (arith, below_all, ap (λ (l : List Fault). length l) is.faults)
 
-    same : (other : Fault) → fault ≡ slice_index_or (all_faults plan before) (length known.alone.items) other
+    same : (other : Fault) → fault_in known.faults (length known.alone.items) ≡ slice_index_or (all_faults plan before) (length known.alone.items) other
     same other =
-        (at.is ∙ ap (λ (l : List Fault). slice_index_or l (length known.alone.items) fault) is.faults)
-        ∙ same_read (all_faults plan before) (length known.alone.items) fault other within
+        ap (λ (l : List Fault). fault_in l (length known.alone.items)) is.faults
+        ∙ same_read (all_faults plan before) (length known.alone.items) (fault.Edge (record { 0 = 0 })) other within
 
     by : (place : ℕ) (other : Fault) (none : Alone) → place < length known.alone.items + 1 → (b : Bool) → nat_eq place (length known.alone.items) ≡ b
         → AreLeft plan before (slice_index_or (all_faults plan before) place other ∷ []) [] (cond b alone (slice_index_or known.alone.items place none)).changes.items
     by place other none below true here =
         subst (λ (n : ℕ). AreLeft plan before (slice_index_or (all_faults plan before) n other ∷ []) [] alone.changes.items) (sym (eqb-true place (length known.alone.items) here))
-        (subst (λ (f : Fault). AreLeft plan before (f ∷ []) [] alone.changes.items) (same other) (subst (AreLeft plan before (fault ∷ []) []) (sym held) left))
+        (subst (λ (f : Fault). AreLeft plan before (f ∷ []) [] alone.changes.items) (same other) (subst (AreLeft plan before (fault_in known.faults (length known.alone.items) ∷ []) []) (sym held) left))
     by place other none below false apart = is.alone place other none (grind (arith, nat_tests, below, apart))

@@ -4,6 +4,7 @@ pub mod CountLemmas
 pub mod EdgeLemmas
 pub mod KnownLemmas
 pub mod LeftLemmas
+pub mod PartLemmas
 pub mod SiteLemmas
 pub mod TextLemmas
 pub mod VisitLemmas

@@ -1,6 +1,7 @@
 -- Lines service by service and edge by edge, and over words in the place of relations.
-use Rattle.std.proofs.Common.{◌≡◌, ◌<◌, ◌+◌, ◌++◌, ◌&&◌, ◌∙◌, not, nat_eq, nat_lt, ℕ, Bool, true, false, List, [], ◌∷◌, Result, length, drop, refl, ap, arith, subst, sym}
+use Rattle.std.proofs.Common.{◌≡◌, ◌<◌, ◌+◌, ◌++◌, ◌&&◌, ◌∙◌, not, if◌then◌else◌, nat_eq, nat_lt, ℕ, Bool, true, false, List, [], ◌∷◌, Result, length, drop, refl, ap, arith, subst, sym}
 use Rattle.std.specs.Prelude.{codes}
+use Rattle.std.specs.Fmt.{decimal}
 use Rattle.std.proofs.lemmas.List.{at_drop_more}
 use Rattle.net_base.specs.declared.plan.Plan.{Plan}
 use Rattle.net_base.specs.declared.plan.edge_plan.EdgePlan.{EdgePlan}
@@ -13,12 +14,16 @@ use Rattle.survey_laws.specs.Would.{would_reach}
 use Rattle.survey_reach.specs.Reach.{reaches}
 use Rattle.survey_reach.specs.Words.{has_pair, in_word}
 use Rattle.survey_reach.proofs.WordLemmas.{none_in_zero as none_on}
+use Rattle.survey_text.specs.declared.over.Over.{Over}
+use Rattle.survey_text.specs.declared.over.OverService.{OverService}
+use Rattle.survey_text.specs.declared.service.Service.{Service}
 use Rattle.survey_text.specs.declared.sites.Sites.{Sites}
-use Rattle.survey_text.specs.Cases.{changes_beside}
+use Rattle.survey_text.specs.declared.worked_case.WorkedCase.{WorkedCase}
+use Rattle.survey_text.specs.Cases.{changes_beside, count_found}
 use Rattle.survey_text.specs.Relations.{any_edge, are_apart, find, has_site, is_cut, is_other, is_reached, lose, pairs_where, sites_where}
-use Rattle.survey_text.specs.Surveys.{AreSites, count_in, is_whole}
-use Rattle.survey_text.specs.Text.{apart_text, change_text, change_texts, count_all, count_apart, found_text, label_line, label_lines, lost_text, relation_text, service_text, service_texts}
-use Rattle.text_lines.specs.Written.{Puts, Written}
+use Rattle.survey_text.specs.Surveys.{AreSites, Case, IsOver, IsServiceOver, IsWorked, count_in, is_whole}
+use Rattle.survey_text.specs.Text.{apart_text, case_end, case_line, case_text, change_text, change_texts, count_all, count_apart, count_head, found_text, label_line, label_lines, lost_text, relation_text, service_text, service_texts}
+use Rattle.text_lines.specs.Written.{IsCut, Puts, Written}
 use Rattle.survey_text.proofs.EdgeLemmas.{none_passes}
 use Rattle.survey_text.proofs.ChangeLemmas.{site_within}
 
@@ -164,3 +169,21 @@ apart_lines plan before service apart all at cut rows checked says whole stands 
 -- a text by another name
 pub puts_same : {T E : Type 0} (result : Result T E) (a b : Written) (first second : List ℕ) → first ≡ second → Puts result a b first → Puts result a b second
 puts_same result a b first second same puts = subst (Puts result a b) same puts
+
+pub cut_same : (a b : Written) (first second : List ℕ) → first ≡ second → IsCut a b first → IsCut a b second
+cut_same a b first second same cut = subst (IsCut a b) same cut
+
+-- the first line of a case by what was worked out
+pub case_line_is : (case : Case) (worked : WorkedCase) (found : ℕ) → IsWorked case worked → found ≡ count_found worked.over.plan.now case.before case.faults
+    → count_head (codes "case") worked.lost ++ ((codes " " ++ decimal found) ++ case_end worked.over.plan.now worked.faults.now) ≡ case_line worked.over.plan.now case.before case.faults
+case_line_is case worked found is counts = λ i. count_head (codes "case") (is.lost i) ++ ((codes " " ++ decimal (counts i)) ++ case_end worked.over.plan.now (is.faults i))
+
+-- a survey of a service is made over the same
+pub relation_over : (before : NetworkState) (over : Over) (service : ServiceId) (of : OverService) (any : Service) → of ≡ record { over = over; service = service } → IsServiceOver before over any → IsOver before of.over
+relation_over before over service of any is made = subst (λ (o : OverService). IsOver before o.over) (sym is) made.made
+
+-- the lines of a case that is told
+pub case_told : (case : Case) (worked : WorkedCase) → IsWorked case worked → worked.told ≡ true
+    → case_line worked.over.plan.now case.before case.faults ++ change_texts worked.over.plan.now case.before case.faults 0 worked.over.plan.now.services ≡ case_text worked.over.plan.now case.before case.faults
+case_told case worked is so =
+    ap (λ (t : Bool). if t then case_line worked.over.plan.now case.before case.faults ++ change_texts worked.over.plan.now case.before case.faults 0 worked.over.plan.now.services else []) (sym so ∙ is.told)

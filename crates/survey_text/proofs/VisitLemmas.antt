@@ -1,16 +1,18 @@
 -- Cases one behind another.
-use Rattle.std.proofs.Common.{◌≡◌, ◌<◌, ◌+◌, ◌++◌, ◌∙◌, ℕ, List, [], ◌∷◌, Result, Ok, Err, length, slice_index_or, drop, refl, sym, ap, subst, append_assoc}
-use Rattle.std.proofs.lemmas.List.{append-nil}
-use Rattle.net_values.proofs.RowLemmas.{drop_next}
+use Rattle.std.proofs.Common.{◌≡◌, ◌<◌, ◌≤◌, ◌+◌, ◌++◌, ◌∙◌, ℕ, zero, suc, List, [], ◌∷◌, Result, Ok, Err, OnOk, length, slice_index_or, drop, refl, sym, ap, arith, subst, append_assoc}
+use Rattle.std.proofs.lemmas.List.{append-nil, drop_all}
+use Rattle.net_values.proofs.RowLemmas.{drop_next, same_read}
 use Rattle.net_base.specs.declared.plan.Plan.{Plan}
 use Rattle.network_model.specs.State.{NetworkState}
 use Rattle.survey_laws.specs.declared.fault.Fault.{Fault}
+use Rattle.survey_laws.specs.declared.fault.Fault.TheVariants as fault
 use Rattle.survey_reach.specs.FaultList.{all_faults}
+use Rattle.survey_text.specs.declared.change.Change.{Change}
 use Rattle.survey_text.specs.declared.known.Known.{Known}
 use Rattle.survey_text.specs.declared.stop.SurveyStop.{SurveyStop}
 use Rattle.survey_text.specs.declared.stop.SurveyStop.TheVariants as stop
 use Rattle.survey_text.specs.Cases.{cases_of, pairs, triples, triples_with, with_one}
-use Rattle.survey_text.specs.Surveys.{AreAllKnown, AreVisited, IsFaultAt, IsKnown, PutsFront, Stops, Surveys, Visits}
+use Rattle.survey_text.specs.Surveys.{AreAllKnown, AreLeft, AreVisited, IsCaseOf, IsKnown, PutsFront, Stops, Surveys, Visits, fault_in, faults_at}
 use Rattle.survey_text.specs.Text.{Tallied, case_text, case_texts, cases_text, end_text, ground_text, no_cases, survey_text, tally_case, tally_cases}
 use Rattle.text_lines.specs.Written.{IsCut, Written, WritingGoesOn}
 use Rattle.text_lines.proofs.WrittenLemmas.{cut_first, cut_later, goes_none, goes_two}
@@ -114,46 +116,126 @@ visiting_all plan before a b t u rest whole none so_far =
 
 -- ---- the cases from a fault on
 
-pub one_more : (front faults : List Fault) (place : ℕ) (next : Fault) → place < length faults → next ≡ slice_index_or faults place next
-    → with_one front (drop place faults) ≡ ((front ++ next ∷ []) ∷ []) ++ with_one front (drop (place + 1) faults)
-one_more front faults place next within is = ap (with_one front) (drop_next faults place next within is)
+faults_next : (faults : List Fault) (place : ℕ) → place < length faults → drop place faults ≡ fault_in faults place ∷ drop (place + 1) faults
+faults_next faults place within = drop_next faults place (fault_in faults place) within (same_read faults place (fault.Edge (record { 0 = 0 })) (fault_in faults place) within)
 
-pub pair_more : (faults : List Fault) (place : ℕ) (next : Fault) → place < length faults → next ≡ slice_index_or faults place next
-    → pairs (drop place faults) ≡ with_one (next ∷ []) (drop (place + 1) faults) ++ pairs (drop (place + 1) faults)
-pair_more faults place next within is = ap pairs (drop_next faults place next within is)
+pub one_more : (front faults : List Fault) (place : ℕ) → place < length faults
+    → with_one front (drop place faults) ≡ ((front ++ fault_in faults place ∷ []) ∷ []) ++ with_one front (drop (place + 1) faults)
+one_more front faults place within = ap (with_one front) (faults_next faults place within)
 
-pub triple_with_more : (one : Fault) (faults : List Fault) (place : ℕ) (next : Fault) → place < length faults → next ≡ slice_index_or faults place next
-    → triples_with one (drop place faults) ≡ with_one (one ∷ next ∷ []) (drop (place + 1) faults) ++ triples_with one (drop (place + 1) faults)
-triple_with_more one faults place next within is = ap (triples_with one) (drop_next faults place next within is)
+pub pair_more : (faults : List Fault) (place : ℕ) → place < length faults
+    → pairs (drop place faults) ≡ with_one (fault_in faults place ∷ []) (drop (place + 1) faults) ++ pairs (drop (place + 1) faults)
+pair_more faults place within = ap pairs (faults_next faults place within)
 
-pub triple_more : (faults : List Fault) (place : ℕ) (next : Fault) → place < length faults → next ≡ slice_index_or faults place next
-    → triples (drop place faults) ≡ triples_with next (drop (place + 1) faults) ++ triples (drop (place + 1) faults)
-triple_more faults place next within is = ap triples (drop_next faults place next within is)
+pub triple_with_more : (one : Fault) (faults : List Fault) (place : ℕ) → place < length faults
+    → triples_with one (drop place faults) ≡ with_one (one ∷ fault_in faults place ∷ []) (drop (place + 1) faults) ++ triples_with one (drop (place + 1) faults)
+triple_with_more one faults place within = ap (triples_with one) (faults_next faults place within)
+
+pub triple_more : (faults : List Fault) (place : ℕ) → place < length faults
+    → triples (drop place faults) ≡ triples_with (fault_in faults place) (drop (place + 1) faults) ++ triples (drop (place + 1) faults)
+triple_more faults place within = ap triples (faults_next faults place within)
 
 -- memory lacked once a whole text was put
 pub front_all : (a b : Written) (text : List ℕ) → WritingGoesOn a b text → PutsFront a b text
 front_all a b text goes = record { front = text; rest = []; goes = goes; all = append-nil text }
 
 -- the same of a list by another name
-pub one_more_of : (front faults whole : List Fault) (place : ℕ) (next : Fault) → faults ≡ whole → place < length faults → next ≡ slice_index_or faults place next
-    → with_one front (drop place whole) ≡ ((front ++ next ∷ []) ∷ []) ++ with_one front (drop (place + 1) whole)
-one_more_of front faults whole place next same within is =
-    subst (λ (f : List Fault). with_one front (drop place f) ≡ ((front ++ next ∷ []) ∷ []) ++ with_one front (drop (place + 1) f)) same (one_more front faults place next within is)
+pub one_more_of : (front faults whole : List Fault) (place : ℕ) → faults ≡ whole → place < length whole
+    → with_one front (drop place whole) ≡ ((front ++ fault_in faults place ∷ []) ∷ []) ++ with_one front (drop (place + 1) whole)
+one_more_of front faults whole place same within =
+    one_more front whole place within ∙ ap (λ (f : List Fault). ((front ++ fault_in f place ∷ []) ∷ []) ++ with_one front (drop (place + 1) whole)) (sym same)
+
+-- by two names of what is left
+pub visiting_as : (plan : Plan) (before : NetworkState) (a b : Written) (t u : Tallied) (rest same whole : List (List Fault)) → rest ≡ same
+    → Visiting plan before a b t u rest whole → Visiting plan before a b t u same whole
+visiting_as plan before a b t u rest same whole is so_far = subst (λ (l : List (List Fault)). Visiting plan before a b t u l whole) is so_far
+
+-- it stopped within a case by two names of what is known
+pub stops_known : (plan : Plan) (before : NetworkState) (fault : SurveyStop) (a b : Written) (now known : Known) (places : List ℕ) → now ≡ known
+    → Stops fault a b (case_texts plan before (faults_at now.faults places ∷ [])) → Stops fault a b (case_texts plan before (faults_at known.faults places ∷ []))
+stops_known plan before fault a b now known places same stops = subst (λ (k : Known). Stops fault a b (case_texts plan before (faults_at k.faults places ∷ []))) same stops
+
+-- no fault is left behind the last one
+pub none_later : (cases : List Fault → List (List Fault)) (faults : List Fault) (place : ℕ) (rest : List (List Fault)) → cases [] ≡ [] → length faults ≤ place → cases (drop place faults) ++ rest ≡ rest
+none_later cases faults place rest none past = ap (λ (l : List (List Fault)). l ++ rest) (ap cases (drop_all place faults past) ∙ none)
+
+-- ---- which cases can be worked out
+
+pub case_one : (plan : Plan) (before : NetworkState) (place : ℕ) (known : Known) → IsKnown plan before place known → place < length known.faults → IsCaseOf plan before known (place ∷ [])
+case_one plan before place known is within = record {
+  services = is.services;
+  most = omega arith;
+  within = record { each = by };
+  alone = λ more. absurd (omega (arith, more));
+}
+  where
+    by : (i none : ℕ) → i < length (place ∷ []) → slice_index_or (place ∷ []) i none < length known.faults
+    by zero none below = within
+    by (suc i) none below = absurd (omega (arith, below))
+
+pub case_two : (plan : Plan) (before : NetworkState) (first second : ℕ) (now known : Known) → now ≡ known → AreAllKnown plan before known → first < length known.faults → second < length known.faults
+    → IsCaseOf plan before now (first ∷ second ∷ [])
+case_two plan before first second now known same are low high = subst (λ (k : Known). IsCaseOf plan before k (first ∷ second ∷ [])) (sym same) (record {
+  services = are.services;
+  most = omega arith;
+  within = record { each = by };
+  alone = λ more. are;
+})
+  where
+    by : (i none : ℕ) → i < length (first ∷ second ∷ []) → slice_index_or (first ∷ second ∷ []) i none < length known.faults
+    by zero none below = low
+    by (suc zero) none below = high
+    by (suc (suc i)) none below = absurd (omega (arith, below))
+
+pub case_three : (plan : Plan) (before : NetworkState) (first second third : ℕ) (now known : Known) → now ≡ known → AreAllKnown plan before known → first < length known.faults
+    → second < length known.faults → third < length known.faults → IsCaseOf plan before now (first ∷ second ∷ third ∷ [])
+case_three plan before first second third now known same are low middle high = subst (λ (k : Known). IsCaseOf plan before k (first ∷ second ∷ third ∷ [])) (sym same) (record {
+  services = are.services;
+  most = omega arith;
+  within = record { each = by };
+  alone = λ more. are;
+})
+  where
+    by : (i none : ℕ) → i < length (first ∷ second ∷ third ∷ []) → slice_index_or (first ∷ second ∷ third ∷ []) i none < length known.faults
+    by zero none below = low
+    by (suc zero) none below = middle
+    by (suc (suc zero)) none below = high
+    by (suc (suc (suc i))) none below = absurd (omega (arith, below))
+
+-- the case that was closed is that of the faults at some places
+pub visits_case : {T : Type 0} (plan : Plan) (before : NetworkState) (result : Result T SurveyStop) (a b : Written) (t u : Tallied) (one case : List Fault) → one ≡ case
+    → Surveys result a b (case_text plan before one) → OnOk result (u ≡ tally_case plan before one t) → Visits plan before result a b t u (case ∷ [])
+visits_case plan before (Ok value) a b t u one case same text is =
+    subst (λ (c : List Fault). Visits plan before (Ok value) a b t u (c ∷ [])) same (visits_one plan before (Ok value) a b t u one text is)
+visits_case plan before (Err fault) a b t u one case same text is =
+    subst (λ (c : List Fault). Stops fault a b (case_texts plan before (c ∷ []))) same (subst (Stops fault a b) (sym (append-nil (case_text plan before one))) text)
+
+pub on_ok : {T E P : Type 0} (result : Result T E) → P → OnOk result P
+on_ok (Ok value) p = p
+on_ok (Err fault) p = tt
 
 -- ---- what is known by its count
 
-pub known_counts : (plan : Plan) (before : NetworkState) (count : ℕ) (known : Known) → IsKnown plan before count known → IsKnown plan before (length known.alone.items) known
-known_counts plan before count known is = subst (λ (n : ℕ). IsKnown plan before n known) (sym is.counted) is
+pub known_counts : (plan : Plan) (before : NetworkState) (count : ℕ) (old now : Known) → now ≡ old → IsKnown plan before count old → IsKnown plan before (length now.alone.items) now
+known_counts plan before count old now same is =
+    subst (λ (k : Known). IsKnown plan before (length k.alone.items) k) (sym same) (subst (λ (n : ℕ). IsKnown plan before n old) (sym is.counted) is)
 
-pub fault_counts : (plan : Plan) (before : NetworkState) (count : ℕ) (known : Known) (one : Fault) → IsKnown plan before count known → IsFaultAt known count one
-    → IsFaultAt known (length known.alone.items) one
-fault_counts plan before count known one is at = subst (λ (n : ℕ). IsFaultAt known n one) (sym is.counted) at
+pub changes_count : (plan : Plan) (before : NetworkState) (count : ℕ) (old now : Known) (changes : List Change) → now ≡ old → IsKnown plan before count old
+    → AreLeft plan before (fault_in old.faults count ∷ []) [] changes → AreLeft plan before (fault_in now.faults (length now.alone.items) ∷ []) [] changes
+changes_count plan before count old now changes same is left =
+    subst (λ (k : Known). AreLeft plan before (fault_in k.faults (length k.alone.items) ∷ []) [] changes) (sym same)
+    (subst (λ (n : ℕ). AreLeft plan before (fault_in old.faults n ∷ []) [] changes) (sym is.counted) left)
 
-pub known_next : (plan : Plan) (before : NetworkState) (count : ℕ) (old new : Known) → IsKnown plan before count old → IsKnown plan before (length old.alone.items + 1) new
+pub within_counts : (plan : Plan) (before : NetworkState) (count : ℕ) (old now : Known) → now ≡ old → IsKnown plan before count old → count < length old.faults → length now.alone.items < length now.faults
+within_counts plan before count old now same is within =
+    subst (λ (k : Known). length k.alone.items < length k.faults) (sym same) (subst (λ (n : ℕ). n < length old.faults) (sym is.counted) within)
+
+pub known_next : (plan : Plan) (before : NetworkState) (count : ℕ) (old now new : Known) → now ≡ old → IsKnown plan before count old → IsKnown plan before (length now.alone.items + 1) new
     → IsKnown plan before (count + 1) new
-known_next plan before count old new is next = subst (λ (n : ℕ). IsKnown plan before (n + 1) new) is.counted next
+known_next plan before count old now new same is next =
+    subst (λ (n : ℕ). IsKnown plan before (n + 1) new) (ap (λ (k : Known). length k.alone.items) same ∙ is.counted) next
 
-pub ruleset known_steps = (known_counts, fault_counts, known_next)
+pub ruleset known_steps = (known_counts, changes_count, within_counts, known_next)
 
 pub known_all : (plan : Plan) (before : NetworkState) (count : ℕ) (known : Known) → IsKnown plan before count known → length known.faults ≡ count → AreAllKnown plan before known
 known_all plan before count known is all = subst (λ (n : ℕ). IsKnown plan before n known) (sym all ∙ ap length is.faults) is

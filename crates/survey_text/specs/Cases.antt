@@ -40,6 +40,18 @@ parts (one ∷ []) = []
 parts (one ∷ next ∷ []) = (next ∷ []) ∷ (one ∷ []) ∷ []
 parts (one ∷ next ∷ last ∷ rest) = (one ∷ next ∷ []) ∷ (one ∷ last ∷ []) ∷ (next ∷ last ∷ []) ∷ (last ∷ []) ∷ (next ∷ []) ∷ (one ∷ []) ∷ []
 
+-- the parts of one fault, those of later faults first
+abbrev pub singles_of : List Fault → List (List Fault)
+singles_of [] = []
+singles_of (one ∷ faults) = singles_of faults ++ (one ∷ []) ∷ []
+
+-- the parts of two faults, where the case has three
+abbrev pub pairs_of : List Fault → List (List Fault)
+pairs_of [] = []
+pairs_of (one ∷ []) = []
+pairs_of (one ∷ next ∷ []) = []
+pairs_of (one ∷ next ∷ last ∷ rest) = (one ∷ next ∷ []) ∷ (one ∷ last ∷ []) ∷ (next ∷ last ∷ []) ∷ []
+
 -- two edges change by the case and by none of some parts of it
 abbrev pub changes_beside : (List Fault → ℕ → ℕ → Bool) → List Fault → List (List Fault) → ℕ → ℕ → Bool
 changes_beside change faults parts a b = change faults a b && not (list_any (λ part. change part a b) parts)

@@ -1,11 +1,12 @@
 -- What a survey at work knows, and what has been written when it ends.
-use Rattle.std.specs.Prelude.{◌≡◌, ◌<◌, ◌++◌, ◌==◌, ◌&&◌, ◌||◌, not, nat_lt, ℕ, Bool, false, List, [], ◌∷◌, length, Option, Result, Ok, Err, slice_index_or}
+use Rattle.std.specs.Prelude.{◌≡◌, ◌<◌, ◌≤◌, ◌++◌, ◌==◌, ◌&&◌, ◌||◌, not, nat_lt, ℕ, Bool, false, List, [], ◌∷◌, length, map, Option, Result, Ok, Err, slice_index_or}
 use Rattle.net_base.specs.declared.plan.Plan.{Plan}
 use Rattle.net_base.specs.declared.plan.edge_plan.EdgePlan.{EdgePlan}
 use Rattle.net_base.specs.declared.plan.places.ServiceId.{ServiceId}
 use Rattle.net_base.specs.plan.Accepted.{IsChecked}
 use Rattle.network_model.specs.State.{NetworkState}
 use Rattle.survey_laws.specs.declared.fault.Fault.{Fault}
+use Rattle.survey_laws.specs.declared.fault.Fault.TheVariants as fault
 use Rattle.survey_reach.specs.declared.shape.Shape.{Shape}
 use Rattle.survey_reach.specs.FaultList.{all_faults}
 use Rattle.survey_reach.specs.Ground.{IsGroundOf}
@@ -21,7 +22,8 @@ use Rattle.survey_text.specs.declared.stop.SurveyStop.{SurveyStop}
 use Rattle.survey_text.specs.declared.stop.SurveyStop.TheVariants as stop
 use Rattle.survey_text.specs.declared.survey.Survey.{Survey}
 use Rattle.survey_text.specs.declared.tally.Tally.{Tally}
-use Rattle.survey_text.specs.Cases.{changes_beside}
+use Rattle.survey_text.specs.declared.worked_case.WorkedCase.{WorkedCase}
+use Rattle.survey_text.specs.Cases.{changes_beside, count_lost, is_told}
 use Rattle.survey_text.specs.Relations.{any_pair, count_sites, find, has_site, lose}
 use Rattle.survey_text.specs.Text.{Tallied, case_texts, no_cases, tally_cases}
 use Rattle.text_lines.specs.Written.{IsCut, Written, WritingGoesOn, lines_written}
@@ -49,6 +51,11 @@ pub record IsService (plan : Plan) (before : NetworkState) (asked : ServiceId) (
   pub shape : IsShapeOf plan asked service.shape
   pub sites : AreSites plan before asked service.sites
   pub reach : (a b : ℕ) → has_pair service.reach a b ≡ reaches plan before [] asked a b
+
+-- so it is with a survey that is made over this
+pub record IsServiceOver (before : NetworkState) (over : Over) (service : Service) : Type 0 where
+  pub made : IsOver before over
+  pub served : IsService over.plan.now before service.shape.service service
 
 pub record AreServices (plan : Plan) (before : NetworkState) (services : List Service) : Type 0 where
   pub all : length services ≡ length plan.services
@@ -108,6 +115,15 @@ pub record Case : Type 0 where
   pub parts : List (List Fault)
   pub part : List Fault
 
+-- a case was worked out over a network
+pub record IsWorked (case : Case) (worked : WorkedCase) : Type 0 where
+  pub over : IsOver case.before worked.over
+  pub services : AreServices worked.over.plan.now case.before worked.services.now
+  pub faults : worked.faults.now ≡ case.faults
+  pub changes : AreLeft worked.over.plan.now case.before case.faults [] worked.changes.now
+  pub lost : worked.lost ≡ count_lost worked.over.plan.now case.before case.faults
+  pub told : worked.told ≡ is_told worked.over.plan.now case.before case.faults
+
 -- a tally as it is counted
 abbrev pub tallied : Tally → Tallied
 tallied tally = record { cases = tally.cases; split = tally.split; told = tally.told; worst = tally.worst; worst_case = tally.worst_case.items }
@@ -123,10 +139,30 @@ pub record IsKnown (plan : Plan) (before : NetworkState) (count : ℕ) (known : 
 abbrev pub AreAllKnown : Plan → NetworkState → Known → Type 0
 AreAllKnown plan before known = IsKnown plan before (length (all_faults plan before)) known
 
--- the fault at a place
-pub record IsFaultAt (known : Known) (place : ℕ) (fault : Fault) : Type 0 where
-  pub within : place < length known.faults
-  pub is : fault ≡ slice_index_or known.faults place fault
+-- the fault at a place of a list, and those at places; outside it stands any one
+abbrev pub fault_in : List Fault → ℕ → Fault
+fault_in faults place = slice_index_or faults place (fault.Edge (record { 0 = 0 }))
+
+abbrev pub faults_at : List Fault → List ℕ → List Fault
+faults_at faults places = map (fault_in faults) places
+
+-- places of a list of so many
+pub record ArePlaces (count : ℕ) (places : List ℕ) : Type 0 where
+  pub each : (i none : ℕ) → i < length places → slice_index_or places i none < count
+
+-- a case of the faults at these places can be worked out: it is one of them, or two or three where what each changes alone is known
+pub record IsCaseOf (plan : Plan) (before : NetworkState) (known : Known) (places : List ℕ) : Type 0 where
+  pub services : AreServices plan before known.services.items
+  pub most : length places ≤ 3
+  pub within : ArePlaces (length known.faults) places
+  pub alone : 1 < length places → AreAllKnown plan before known
+
+-- a survey has worked out a case, and whether it is told
+pub record IsWorkedOut (plan : Plan) (case : Case) (survey : Survey) (told : Bool) : Type 0 where
+  pub services : AreServices plan case.before survey.known.services.items
+  pub faults : survey.work.faults.items ≡ case.faults
+  pub changes : AreLeft plan case.before case.faults [] survey.work.changes.items
+  pub is : told ≡ is_told plan case.before case.faults
 
 -- a survey before its first case
 pub record IsSurveyOf (plan : Plan) (before : NetworkState) (survey : Survey) : Type 0 where

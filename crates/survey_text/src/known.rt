@@ -1,15 +1,15 @@
 //! What is known of a network before its cases, and of each fault alone.
-ghost use Rattle.std.specs.Prelude.{◌≡◌, ◌+◌, length, IfOk, OnOk, [], ◌∷◌};
+ghost use Rattle.std.specs.Prelude.{◌≡◌, ◌<◌, ◌+◌, length, IfOk, OnOk, [], ◌∷◌};
 ghost use Rattle.network_model.specs.State.{NetworkState};
 ghost use Rattle.survey_reach.specs.Reach.{HasBefallen};
-ghost use Rattle.survey_text.specs.Surveys.{AreLeft, AreServices, AreShapes, IsFaultAt, IsKnown, IsOver};
+ghost use Rattle.survey_text.specs.Surveys.{AreLeft, AreServices, AreShapes, IsKnown, IsOver, fault_in};
 
 use crate::change::Change;
 use crate::over::Over;
 use crate::service::Service;
 use net_base::{List, NoMemory};
 use survey_laws::Fault;
-use survey_reach::{Reaching, Shape, all_faults};
+use survey_reach::{FailedGround, Reaching, Shape, all_faults};
 
 /// What a fault changes alone, service by service.
 #[derive(Drop)]
@@ -57,7 +57,12 @@ impl Known {
         requires shapes { AreShapes over.plan.now shapes.items }
         ensures { IfOk result (IsKnown over.entry.plan.now before 0) }
     {
-        reaching.befall(over.plan, over.ground, &[])?;
+        let unfailed = FailedGround {
+            plan: over.plan,
+            ground: over.ground,
+            faults: &[],
+        };
+        reaching.befall(unfailed)?;
         Ok(Known {
             services: services_of(over, reaching, shapes)?,
             faults: all_faults(over.alloc, over.plan, over.ground)?,
@@ -65,12 +70,21 @@ impl Known {
         })
     }
 
+    /// The fault at a place.
+    #[tactic(auto, using(crate::proofs::PartLemmas::fault_read))]
+    pub fn fault_at(&self, place: usize) -> Fault
+        requires { place < length self.now.faults }
+        ensures { result ≡ fault_in self.now.faults place }
+    {
+        self.faults.as_slice()[place]
+    }
+
     /// Keeps what one more fault changes alone.
-    pub fn keep(&mut self, over: Over<'_>, changes: &[Change], fault: Fault) -> Result<(), NoMemory>
+    pub fn keep(&mut self, over: Over<'_>, changes: &[Change]) -> Result<(), NoMemory>
         ghost before: { NetworkState }
         requires known { IsKnown over.plan.now before (length self.old.alone.items) self.old }
-        requires changes { AreLeft over.plan.now before (fault ∷ []) [] changes.now }
-        requires fault { IsFaultAt self.old (length self.old.alone.items) fault }
+        requires changes { AreLeft over.plan.now before (fault_in self.old.faults (length self.old.alone.items) ∷ []) [] changes.now }
+        requires within { length self.old.alone.items < length self.old.faults }
         ensures known { OnOk result (IsKnown over.entry.plan.now before (length self.old.alone.items + 1) self.new) }
         ensures services { self.new.services.items ≡ self.old.services.items }
         ensures faults { self.new.faults ≡ self.old.faults }

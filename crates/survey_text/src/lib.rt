@@ -22,7 +22,6 @@ mod stop;
 mod survey;
 mod tally;
 mod told;
-mod visits;
 mod words;
 mod work;
 mod worked_case;

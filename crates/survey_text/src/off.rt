@@ -5,32 +5,32 @@ ghost use Rattle.survey_text.specs.{Surveys.{IsOver}, Text.{any_off, is_off_row,
 ghost use Rattle.text_lines.specs.Written.{PutsOn};
 ghost use Rattle.text_pieces.specs.Pieces.{spaced};
 
-use crate::over::Over;
+use crate::over::OverService;
 use crate::words::{put_end, put_head};
-use net_base::{Failed, ServiceId, Sink};
+use net_base::{Failed, Sink};
 use text_lines::{LineWord, Page};
 
 // Whether the circuit at a place is one.
-fn is_off(over: Over<'_>, service: ServiceId, circuit: usize) -> bool
+fn is_off(of: OverService<'_>, circuit: usize) -> bool
     ghost before: { NetworkState }
-    requires over { IsOver before over }
-    ensures { result ≡ is_off_row before service circuit (slice_get over.entry.plan.now.circuits circuit) }
+    requires over { IsOver before of.over }
+    ensures { result ≡ is_off_row before of.entry.service circuit (slice_get of.entry.over.plan.now.circuits circuit) }
 {
-    match over.plan.circuits.get(circuit) {
-        Some(row) => over.is_off(service, circuit, row),
+    match of.over.plan.circuits.get(circuit) {
+        Some(row) => of.over.is_off(of.service, circuit, row),
         None => false,
     }
 }
 
 // Whether there is one.
 #[tactic(auto, using(crate::proofs::SiteLemmas::off_step))]
-fn has_off(over: Over<'_>, service: ServiceId) -> bool
+fn has_off(of: OverService<'_>) -> bool
     ghost before: { NetworkState }
-    requires over { IsOver before over }
-    ensures { result ≡ any_off before service 0 over.entry.plan.now.circuits }
+    requires over { IsOver before of.over }
+    ensures { result ≡ any_off before of.entry.service 0 of.entry.over.plan.now.circuits }
 {
-    for circuit in 0..over.plan.circuits.len() {
-        if is_off(over, service, circuit) {
+    for circuit in 0..of.over.plan.circuits.len() {
+        if is_off(of, circuit) {
             return true;
         }
     }
@@ -41,17 +41,16 @@ fn has_off(over: Over<'_>, service: ServiceId) -> bool
 fn put_name<K: Sink>(
     page: &mut Page,
     sink: &mut K,
-    over: Over<'_>,
-    service: ServiceId,
+    of: OverService<'_>,
     circuit: usize,
 ) -> Result<(), Failed>
     ghost before: { NetworkState }
-    requires over { IsOver before over }
-    ensures { PutsOn K.taken K.faults page.old page.new sink.old sink.new result (spaced (name_off before service circuit (slice_get over.entry.plan.now.circuits circuit))) }
+    requires over { IsOver before of.over }
+    ensures { PutsOn K.taken K.faults page.old page.new sink.old sink.new result (spaced (name_off before of.entry.service circuit (slice_get of.entry.over.plan.now.circuits circuit))) }
 {
-    match over.plan.circuits.get(circuit) {
+    match of.over.plan.circuits.get(circuit) {
         Some(row) => {
-            if over.is_off(service, circuit, row) {
+            if of.over.is_off(of.service, circuit, row) {
                 page.put_next(sink, LineWord::Text(row.name.as_slice()))
             } else {
                 Ok(())
@@ -62,52 +61,37 @@ fn put_name<K: Sink>(
 }
 
 // Puts their names, a blank before each.
-fn put_names<K: Sink>(
-    page: &mut Page,
-    sink: &mut K,
-    over: Over<'_>,
-    service: ServiceId,
-) -> Result<(), Failed>
+fn put_names<K: Sink>(page: &mut Page, sink: &mut K, of: OverService<'_>) -> Result<(), Failed>
     ghost before: { NetworkState }
-    requires over { IsOver before over }
-    ensures { PutsOn K.taken K.faults page.old page.new sink.old sink.new result (spaced (names_off before service 0 over.entry.plan.now.circuits)) }
+    requires over { IsOver before of.over }
+    ensures { PutsOn K.taken K.faults page.old page.new sink.old sink.new result (spaced (names_off before of.entry.service 0 of.entry.over.plan.now.circuits)) }
 {
-    for circuit in 0..over.plan.circuits.len() {
-        put_name(page, sink, over, service, circuit)?;
+    for circuit in 0..of.over.plan.circuits.len() {
+        put_name(page, sink, of, circuit)?;
     }
     Ok(())
 }
 
 // Puts their line.
-fn put_line<K: Sink>(
-    page: &mut Page,
-    sink: &mut K,
-    over: Over<'_>,
-    service: ServiceId,
-) -> Result<(), Failed>
+fn put_line<K: Sink>(page: &mut Page, sink: &mut K, of: OverService<'_>) -> Result<(), Failed>
     ghost before: { NetworkState }
-    requires over { IsOver before over }
-    ensures { PutsOn K.taken K.faults page.old page.new sink.old sink.new result (names_line over.entry.plan.now service (codes "off") (names_off before service 0 over.entry.plan.now.circuits)) }
+    requires over { IsOver before of.over }
+    ensures { PutsOn K.taken K.faults page.old page.new sink.old sink.new result (names_line of.entry.over.plan.now of.entry.service (codes "off") (names_off before of.entry.service 0 of.entry.over.plan.now.circuits)) }
 {
-    put_head(page, sink, over, service, b"off")?;
-    put_names(page, sink, over, service)?;
+    put_head(page, sink, of, b"off")?;
+    put_names(page, sink, of)?;
     put_end(page, sink)
 }
 
 /// Puts the line of the circuits of a service that are off, where there are some.
 #[tactic(auto, using(text_lines::proofs::WrittenLemmas::goes_none))]
-pub fn put_off<K: Sink>(
-    page: &mut Page,
-    sink: &mut K,
-    over: Over<'_>,
-    service: ServiceId,
-) -> Result<(), Failed>
+pub fn put_off<K: Sink>(page: &mut Page, sink: &mut K, of: OverService<'_>) -> Result<(), Failed>
     ghost before: { NetworkState }
-    requires over { IsOver before over }
-    ensures { PutsOn K.taken K.faults page.old page.new sink.old sink.new result (off_line over.entry.plan.now before service) }
+    requires over { IsOver before of.over }
+    ensures { PutsOn K.taken K.faults page.old page.new sink.old sink.new result (off_line of.entry.over.plan.now before of.entry.service) }
 {
-    if has_off(over, service) {
-        put_line(page, sink, over, service)
+    if has_off(of) {
+        put_line(page, sink, of)
     } else {
         Ok(())
     }

@@ -15,6 +15,13 @@ pub struct Over<'a> {
     pub ground: &'a Ground,
 }
 
+/// Over what a survey is made, and one of the services.
+#[derive(Clone, Copy)]
+pub struct OverService<'a> {
+    pub over: Over<'a>,
+    pub service: ServiceId,
+}
+
 impl<'a> Over<'a> {
     /// The name of a service; empty outside the plan.
     pub fn name_of(&self, service: ServiceId) -> &'a [u8]

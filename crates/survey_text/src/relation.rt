@@ -4,17 +4,26 @@ ghost use Rattle.network_model.specs.State.{NetworkState};
 ghost use Rattle.survey_reach.specs.Words.{has_pair, in_word};
 ghost use Rattle.survey_text.specs.Relations.{is_cut};
 ghost use Rattle.survey_text.specs.Surveys.{IsOver, is_whole};
-ghost use Rattle.survey_text.specs.Text.{are_left, cut_line, names_line, names_where, relation_text, row_line, row_lines, sites_end, sites_line};
+ghost use Rattle.survey_text.specs.Text.{are_left, cut_line, names_line, names_where, relation_text, row_line, row_lines, sites_line};
 ghost use Rattle.text_lines.specs.Written.{PutsOn};
-ghost use Rattle.text_pieces.specs.Pieces.{spaced};
 
 use crate::edges::{has_any, only};
-use crate::over::Over;
+use crate::over::OverService;
 use crate::sites::{put_at, put_sites};
 use crate::words::{put_end, put_head};
-use net_base::{EdgePlan, Failed, ServiceId, Sink};
+use net_base::{EdgePlan, Failed, Sink};
 use survey_reach::{EdgePairs, has_bit, in_both, with_bit, without};
 use text_lines::Page;
+
+// Whether an edge is a pair with some, and with each of these but itself with which it is one by a whole relation.
+#[tactic(auto, using(crate::proofs::EdgeLemmas::any_same))]
+fn is_cut(pairs: &EdgePairs, whole: &EdgePairs, at: u64, edges: &[EdgePlan], edge: usize) -> bool
+    requires few { length edges.now ≤ 64 }
+    requires edge { edge < 64 }
+    ensures { result ≡ is_cut edges.now (has_pair pairs.now) (is_whole whole.now at) edge }
+{
+    has_any(pairs.row(edge), edges, 0) && !has_any(left_of(pairs, whole, at, edge), edges, 0)
+}
 
 // The other edges of some that are a pair with an edge by a whole relation, and not by another one.
 fn left_of(pairs: &EdgePairs, whole: &EdgePairs, at: u64, edge: usize) -> u64
@@ -23,16 +32,6 @@ fn left_of(pairs: &EdgePairs, whole: &EdgePairs, at: u64, edge: usize) -> u64
 {
     let others = without(in_both(whole.row(edge), at), only(edge));
     without(others, pairs.row(edge))
-}
-
-// Whether an edge is a pair with some, and with each of these but itself.
-#[tactic(auto, using(crate::proofs::EdgeLemmas::any_same))]
-fn is_cut(pairs: &EdgePairs, whole: &EdgePairs, at: u64, edges: &[EdgePlan], edge: usize) -> bool
-    requires few { length edges.now ≤ 64 }
-    requires edge { edge < 64 }
-    ensures { result ≡ is_cut edges.now (has_pair pairs.now) (is_whole whole.now at) edge }
-{
-    has_any(pairs.row(edge), edges, 0) && !has_any(left_of(pairs, whole, at, edge), edges, 0)
 }
 
 /// The edges that are a pair with some, and with each other one with which they are by a whole relation.
@@ -50,178 +49,101 @@ pub fn cut_edges(pairs: &EdgePairs, whole: &EdgePairs, at: u64, edges: &[EdgePla
     cut
 }
 
-// Puts the line of the edges that are cut.
-fn put_cut_line<K: Sink>(
-    page: &mut Page,
-    sink: &mut K,
-    over: Over<'_>,
-    service: ServiceId,
-    cut: u64,
-) -> Result<(), Failed>
-    ghost before: { NetworkState }
-    requires over { IsOver before over }
-    ensures { PutsOn K.taken K.faults page.old page.new sink.old sink.new result (names_line over.entry.plan.now service (codes "cut") (names_where over.entry.plan.now before service (in_word cut) 0 over.entry.plan.now.edges)) }
-{
-    put_head(page, sink, over, service, b"cut")?;
-    put_sites(page, sink, over, service, cut, 0)?;
-    put_end(page, sink)
+/// Pairs of edges of a service, by the word with which their lines begin, and the edges of them that are cut.
+#[derive(Clone, Copy)]
+pub struct Relation<'a> {
+    pub of: OverService<'a>,
+    pub word: &'a [u8],
+    pub pairs: &'a EdgePairs,
+    pub cut: u64,
 }
 
-// The same, where there are some.
-#[tactic(auto, using(text_lines::proofs::WrittenLemmas::goes_none))]
-fn put_cut<K: Sink>(
-    page: &mut Page,
-    sink: &mut K,
-    over: Over<'_>,
-    service: ServiceId,
-    cut: u64,
-) -> Result<(), Failed>
-    ghost before: { NetworkState }
-    requires over { IsOver before over }
-    ensures { PutsOn K.taken K.faults page.old page.new sink.old sink.new result (cut_line over.entry.plan.now before service (in_word cut)) }
-{
-    if has_any(cut, over.plan.edges.as_slice(), 0) {
-        put_cut_line(page, sink, over, service, cut)
-    } else {
+impl Relation<'_> {
+    // Puts the line of the edges that are cut.
+    fn put_cut_line<K: Sink>(self, page: &mut Page, sink: &mut K) -> Result<(), Failed>
+        ghost before: { NetworkState }
+        requires over { IsOver before self.of.over }
+        ensures { PutsOn K.taken K.faults page.old page.new sink.old sink.new result (names_line self.entry.of.over.plan.now self.entry.of.service (codes "cut") (names_where self.entry.of.over.plan.now before self.entry.of.service (in_word self.entry.cut) 0 self.entry.of.over.plan.now.edges)) }
+    {
+        put_head(page, sink, self.of, b"cut")?;
+        put_sites(page, sink, self.of, self.cut, 0)?;
+        put_end(page, sink)
+    }
+
+    // The edges that are a pair with an edge, where neither is cut.
+    #[tactic(auto, using(survey_reach::proofs::WordLemmas::none_in_zero))]
+    fn others(self, edge: usize) -> u64
+        requires { edge < 64 }
+        ensures { (k : ℕ) → in_word result k ≡ are_left (has_pair self.entry.pairs.now) (in_word self.entry.cut) edge k }
+    {
+        if has_bit(self.cut, edge) {
+            0
+        } else {
+            without(self.pairs.row(edge), self.cut)
+        }
+    }
+
+    // Puts the line of an edge and of some behind it.
+    fn put_line<K: Sink>(
+        self,
+        page: &mut Page,
+        sink: &mut K,
+        edge: usize,
+        others: u64,
+    ) -> Result<(), Failed>
+        ghost before: { NetworkState }
+        requires over { IsOver before self.of.over }
+        requires edge { edge < length self.of.over.plan.now.edges }
+        ensures { PutsOn K.taken K.faults page.old page.new sink.old sink.new result (sites_line self.entry.of.over.plan.now before self.entry.of.service self.entry.word.now (in_word others) edge (drop (edge + 1) self.entry.of.over.plan.now.edges)) }
+    {
+        put_head(page, sink, self.of, self.word)?;
+        put_at(page, sink, self.of, edge)?;
+        page.put(sink, b" :")?;
+        put_sites(page, sink, self.of, others, edge + 1)?;
+        put_end(page, sink)
+    }
+
+    // Puts the line of an edge, where it is a pair with some behind it.
+    #[tactic(auto, using(text_lines::proofs::WrittenLemmas::goes_none))]
+    fn put_row<K: Sink>(self, page: &mut Page, sink: &mut K, edge: usize) -> Result<(), Failed>
+        ghost before: { NetworkState }
+        requires over { IsOver before self.of.over }
+        requires edge { edge < length self.of.over.plan.now.edges }
+        ensures { PutsOn K.taken K.faults page.old page.new sink.old sink.new result (row_line self.entry.of.over.plan.now before self.entry.of.service self.entry.word.now (are_left (has_pair self.entry.pairs.now) (in_word self.entry.cut) edge) edge (drop (edge + 1) self.entry.of.over.plan.now.edges)) }
+    {
+        let others = self.others(edge);
+        if has_any(others, self.of.over.plan.edges.as_slice(), edge + 1) {
+            self.put_line(page, sink, edge, others)
+        } else {
+            Ok(())
+        }
+    }
+
+    // Puts those of all edges.
+    fn put_rows<K: Sink>(self, page: &mut Page, sink: &mut K) -> Result<(), Failed>
+        ghost before: { NetworkState }
+        requires over { IsOver before self.of.over }
+        ensures { PutsOn K.taken K.faults page.old page.new sink.old sink.new result (row_lines self.entry.of.over.plan.now before self.entry.of.service self.entry.word.now (are_left (has_pair self.entry.pairs.now) (in_word self.entry.cut)) 0 self.entry.of.over.plan.now.edges) }
+    {
+        for edge in 0..self.of.over.plan.edges.len() {
+            self.put_row(page, sink, edge)?;
+        }
         Ok(())
     }
-}
 
-// Puts the sites of an edge, a colon, and those at some edges behind it, and ends the line.
-fn put_sides<K: Sink>(
-    page: &mut Page,
-    sink: &mut K,
-    over: Over<'_>,
-    service: ServiceId,
-    edge: usize,
-    others: u64,
-) -> Result<(), Failed>
-    ghost before: { NetworkState }
-    requires over { IsOver before over }
-    requires edge { edge < length over.plan.now.edges }
-    ensures { PutsOn K.taken K.faults page.old page.new sink.old sink.new result (sites_end over.entry.plan.now before service (in_word others) edge (drop (edge + 1) over.entry.plan.now.edges)) }
-{
-    put_at(page, sink, over, service, edge)?;
-    page.put(sink, b" :")?;
-    put_sites(page, sink, over, service, others, edge + 1)?;
-    put_end(page, sink)
-}
-
-// Puts the line of an edge and of some behind it.
-#[tactic(auto, using(text_lines::proofs::WrittenLemmas::puts_two, text_lines::proofs::WrittenLemmas::cut_first))]
-fn put_sites_line<K: Sink>(
-    page: &mut Page,
-    sink: &mut K,
-    over: Over<'_>,
-    service: ServiceId,
-    word: &[u8],
-    edge: usize,
-    others: u64,
-) -> Result<(), Failed>
-    ghost before: { NetworkState }
-    requires over { IsOver before over }
-    requires edge { edge < length over.plan.now.edges }
-    ensures { PutsOn K.taken K.faults page.old page.new sink.old sink.new result (sites_line over.entry.plan.now before service word.now (in_word others) edge (drop (edge + 1) over.entry.plan.now.edges)) }
-{
-    match put_head(page, sink, over, service, word) {
-        Ok(()) => put_sides(page, sink, over, service, edge, others),
-        Err(fault) => Err(fault),
-    }
-}
-
-// The same, where there are some.
-#[tactic(auto, using(text_lines::proofs::WrittenLemmas::goes_none))]
-fn put_row<K: Sink>(
-    page: &mut Page,
-    sink: &mut K,
-    over: Over<'_>,
-    service: ServiceId,
-    word: &[u8],
-    edge: usize,
-    others: u64,
-) -> Result<(), Failed>
-    ghost before: { NetworkState }
-    requires over { IsOver before over }
-    requires edge { edge < length over.plan.now.edges }
-    ensures { PutsOn K.taken K.faults page.old page.new sink.old sink.new result (row_line over.entry.plan.now before service word.now (in_word others) edge (drop (edge + 1) over.entry.plan.now.edges)) }
-{
-    if has_any(others, over.plan.edges.as_slice(), edge + 1) {
-        put_sites_line(page, sink, over, service, word, edge, others)
-    } else {
-        Ok(())
-    }
-}
-
-// The edges that are a pair with an edge, where neither is cut.
-#[tactic(auto, using(survey_reach::proofs::WordLemmas::none_in_zero))]
-fn others_of(pairs: &EdgePairs, cut: u64, edge: usize) -> u64
-    requires { edge < 64 }
-    ensures { (k : ℕ) → in_word result k ≡ are_left (has_pair pairs.now) (in_word cut) edge k }
-{
-    if has_bit(cut, edge) {
-        0
-    } else {
-        without(pairs.row(edge), cut)
-    }
-}
-
-// Puts the line of an edge.
-fn put_edge<K: Sink>(
-    page: &mut Page,
-    sink: &mut K,
-    over: Over<'_>,
-    service: ServiceId,
-    word: &[u8],
-    pairs: &EdgePairs,
-    cut: u64,
-    edge: usize,
-) -> Result<(), Failed>
-    ghost before: { NetworkState }
-    requires over { IsOver before over }
-    requires edge { edge < length over.plan.now.edges }
-    ensures { PutsOn K.taken K.faults page.old page.new sink.old sink.new result (row_line over.entry.plan.now before service word.now (are_left (has_pair pairs.now) (in_word cut) edge) edge (drop (edge + 1) over.entry.plan.now.edges)) }
-{
-    let others = others_of(pairs, cut, edge);
-    put_row(page, sink, over, service, word, edge, others)
-}
-
-// Puts those of all edges.
-fn put_rows<K: Sink>(
-    page: &mut Page,
-    sink: &mut K,
-    over: Over<'_>,
-    service: ServiceId,
-    word: &[u8],
-    pairs: &EdgePairs,
-    cut: u64,
-) -> Result<(), Failed>
-    ghost before: { NetworkState }
-    requires over { IsOver before over }
-    ensures { PutsOn K.taken K.faults page.old page.new sink.old sink.new result (row_lines over.entry.plan.now before service word.now (are_left (has_pair pairs.now) (in_word cut)) 0 over.entry.plan.now.edges) }
-{
-    for edge in 0..over.plan.edges.len() {
-        put_edge(page, sink, over, service, word, pairs, cut, edge)?;
-    }
-    Ok(())
-}
-
-/// Puts the lines of a relation: first the edges that are cut, and then of each other one the later ones that are a pair with it.
-#[tactic(auto, using(text_lines::proofs::WrittenLemmas::puts_two, text_lines::proofs::WrittenLemmas::cut_first))]
-pub fn put_relation<K: Sink>(
-    page: &mut Page,
-    sink: &mut K,
-    over: Over<'_>,
-    service: ServiceId,
-    word: &[u8],
-    pairs: &EdgePairs,
-    cut: u64,
-) -> Result<(), Failed>
-    ghost before: { NetworkState }
-    requires over { IsOver before over }
-    ensures { PutsOn K.taken K.faults page.old page.new sink.old sink.new result (relation_text over.entry.plan.now before service word.now (has_pair pairs.now) (in_word cut)) }
-{
-    match put_cut(page, sink, over, service, cut) {
-        Ok(()) => put_rows(page, sink, over, service, word, pairs, cut),
-        Err(fault) => Err(fault),
+    /// Puts its lines: first the edges that are cut, and then of each other one the later ones that are a pair with it.
+    #[tactic(auto, using(text_lines::proofs::WrittenLemmas::puts_two, text_lines::proofs::WrittenLemmas::cut_first, text_lines::proofs::WrittenLemmas::goes_none))]
+    pub fn put<K: Sink>(self, page: &mut Page, sink: &mut K) -> Result<(), Failed>
+        ghost before: { NetworkState }
+        requires over { IsOver before self.of.over }
+        ensures { PutsOn K.taken K.faults page.old page.new sink.old sink.new result (relation_text self.entry.of.over.plan.now before self.entry.of.service self.entry.word.now (has_pair self.entry.pairs.now) (in_word self.entry.cut)) }
+    {
+        if !has_any(self.cut, self.of.over.plan.edges.as_slice(), 0) {
+            return self.put_rows(page, sink);
+        }
+        match self.put_cut_line(page, sink) {
+            Ok(()) => self.put_rows(page, sink),
+            Err(fault) => Err(fault),
+        }
     }
 }

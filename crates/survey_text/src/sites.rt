@@ -6,7 +6,7 @@ ghost use Rattle.survey_text.specs.{Relations.{count_sites, sites_where}, Survey
 ghost use Rattle.text_lines.specs.Written.{PutsOn};
 ghost use Rattle.text_pieces.specs.Pieces.{spaced};
 
-use crate::over::Over;
+use crate::over::{Over, OverService};
 use net_base::{EdgePlan, Failed, ServiceId, Sink};
 use survey_reach::{has_bit, with_bit};
 use text_lines::{LineWord, Page};
@@ -90,18 +90,17 @@ impl Sites {
 fn put_site<K: Sink>(
     page: &mut Page,
     sink: &mut K,
-    over: Over<'_>,
-    service: ServiceId,
+    of: OverService<'_>,
     edge: usize,
     circuit: usize,
 ) -> Result<(), Failed>
     ghost before: { NetworkState }
-    requires over { IsOver before over }
-    ensures { PutsOn K.taken K.faults page.old page.new sink.old sink.new result (spaced (name_at before service edge circuit (slice_get over.entry.plan.now.circuits circuit))) }
+    requires over { IsOver before of.over }
+    ensures { PutsOn K.taken K.faults page.old page.new sink.old sink.new result (spaced (name_at before of.entry.service edge circuit (slice_get of.entry.over.plan.now.circuits circuit))) }
 {
-    match over.plan.circuits.get(circuit) {
+    match of.over.plan.circuits.get(circuit) {
         Some(row) => {
-            if over.is_site_at(service, edge, circuit, row) {
+            if of.over.is_site_at(of.service, edge, circuit, row) {
                 page.put_next(sink, LineWord::Text(row.name.as_slice()))
             } else {
                 Ok(())
@@ -115,16 +114,15 @@ fn put_site<K: Sink>(
 pub fn put_at<K: Sink>(
     page: &mut Page,
     sink: &mut K,
-    over: Over<'_>,
-    service: ServiceId,
+    of: OverService<'_>,
     edge: usize,
 ) -> Result<(), Failed>
     ghost before: { NetworkState }
-    requires over { IsOver before over }
-    ensures { PutsOn K.taken K.faults page.old page.new sink.old sink.new result (spaced (names_at before service edge 0 over.entry.plan.now.circuits)) }
+    requires over { IsOver before of.over }
+    ensures { PutsOn K.taken K.faults page.old page.new sink.old sink.new result (spaced (names_at before of.entry.service edge 0 of.entry.over.plan.now.circuits)) }
 {
-    for circuit in 0..over.plan.circuits.len() {
-        put_site(page, sink, over, service, edge, circuit)?;
+    for circuit in 0..of.over.plan.circuits.len() {
+        put_site(page, sink, of, edge, circuit)?;
     }
     Ok(())
 }
@@ -133,18 +131,17 @@ pub fn put_at<K: Sink>(
 fn put_if<K: Sink>(
     page: &mut Page,
     sink: &mut K,
-    over: Over<'_>,
-    service: ServiceId,
+    of: OverService<'_>,
     edges: u64,
     edge: usize,
 ) -> Result<(), Failed>
     ghost before: { NetworkState }
-    requires over { IsOver before over }
+    requires over { IsOver before of.over }
     requires edge { edge < 64 }
-    ensures { PutsOn K.taken K.faults page.old page.new sink.old sink.new result (spaced (names_if over.entry.plan.now before service (in_word edges) edge)) }
+    ensures { PutsOn K.taken K.faults page.old page.new sink.old sink.new result (spaced (names_if of.entry.over.plan.now before of.entry.service (in_word edges) edge)) }
 {
     if has_bit(edges, edge) {
-        put_at(page, sink, over, service, edge)
+        put_at(page, sink, of, edge)
     } else {
         Ok(())
     }
@@ -154,18 +151,17 @@ fn put_if<K: Sink>(
 pub fn put_sites<K: Sink>(
     page: &mut Page,
     sink: &mut K,
-    over: Over<'_>,
-    service: ServiceId,
+    of: OverService<'_>,
     edges: u64,
     from: usize,
 ) -> Result<(), Failed>
     ghost before: { NetworkState }
-    requires over { IsOver before over }
-    requires from { from ≤ length over.plan.now.edges }
-    ensures { PutsOn K.taken K.faults page.old page.new sink.old sink.new result (spaced (names_where over.entry.plan.now before service (in_word edges) from (drop from over.entry.plan.now.edges))) }
+    requires over { IsOver before of.over }
+    requires from { from ≤ length of.over.plan.now.edges }
+    ensures { PutsOn K.taken K.faults page.old page.new sink.old sink.new result (spaced (names_where of.entry.over.plan.now before of.entry.service (in_word edges) from (drop from of.entry.over.plan.now.edges))) }
 {
-    for edge in from..over.plan.edges.len() {
-        put_if(page, sink, over, service, edges, edge)?;
+    for edge in from..of.over.plan.edges.len() {
+        put_if(page, sink, of, edges, edge)?;
     }
     Ok(())
 }

@@ -5,12 +5,13 @@ ghost use Rattle.survey_text.specs.Cases.{cases_of};
 ghost use Rattle.survey_text.specs.Surveys.{AreShapes, IsOver, IsSurveyOf, SurveysOn};
 ghost use Rattle.survey_text.specs.Text.{cases_text, survey_text};
 
+mod visits;
+
 use crate::known::Known;
 use crate::over::Over;
 use crate::put_ground::put_ground;
 use crate::stop::SurveyStop;
 use crate::tally::Tally;
-use crate::visits::visit_all;
 use crate::work::Work;
 use net_base::{Failed, NoMemory, Sink};
 use survey_reach::Shape;
@@ -60,15 +61,7 @@ impl Survey {
         requires survey { IsSurveyOf over.plan.now before self.old }
         ensures { SurveysOn K.taken K.faults page.old page.new sink.old sink.new result (cases_text over.entry.plan.now before self.old.known.faults (cases_of most self.old.known.faults)) }
     {
-        if let Err(stop) = visit_all(
-            &mut self.work,
-            &mut self.tally,
-            page,
-            sink,
-            over,
-            &mut self.known,
-            most,
-        ) {
+        if let Err(stop) = self.visit_all(page, sink, over, most) {
             return Err(stop);
         }
         match self

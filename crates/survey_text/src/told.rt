@@ -10,7 +10,7 @@ use crate::over::Over;
 use crate::service::Service;
 use net_base::{EdgePlan, NoMemory};
 use survey_laws::Fault;
-use survey_reach::Reaching;
+use survey_reach::{FailedGround, Reaching};
 
 /// Works out what faults change, service by service.
 #[tactic(auto, using(crate::proofs::LeftLemmas::placed_none, crate::proofs::KnownLemmas::own_service, crate::proofs::KnownLemmas::by_own))]
@@ -26,10 +26,15 @@ pub fn fill_changes(
     requires services { AreServices over.plan.now before services.now }
     ensures { OnOk result (AreLeft over.entry.plan.now before faults.now [] changes.new.items) }
 {
-    reaching.befall(over.plan, over.ground, faults)?;
+    let failed = FailedGround {
+        plan: over.plan,
+        ground: over.ground,
+        faults,
+    };
+    reaching.befall(failed)?;
     changes.truncate(0);
     for service in services {
-        changes.push(service.change(over, reaching, faults)?)?;
+        changes.push(service.change(reaching, failed)?)?;
     }
     Ok(())
 }

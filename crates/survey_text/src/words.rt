@@ -4,8 +4,8 @@ ghost use Rattle.survey_text.specs.Text.{count_head, line_head};
 ghost use Rattle.text_lines.specs.{Lines.{word_octets}, Written.{PutsOn}};
 ghost use Rattle.text_pieces.specs.Pieces.{spaced};
 
-use crate::over::Over;
-use net_base::{Failed, ServiceId, Sink};
+use crate::over::OverService;
+use net_base::{Failed, Sink};
 use text_lines::{LineWord, Page};
 
 /// Puts a word and the name of a service, with which a line begins.
@@ -13,13 +13,12 @@ use text_lines::{LineWord, Page};
 pub fn put_head<K: Sink>(
     page: &mut Page,
     sink: &mut K,
-    over: Over<'_>,
-    service: ServiceId,
+    of: OverService<'_>,
     word: &[u8],
 ) -> Result<(), Failed>
-    ensures { PutsOn K.taken K.faults page.old page.new sink.old sink.new result (line_head over.entry.plan.now service word.now) }
+    ensures { PutsOn K.taken K.faults page.old page.new sink.old sink.new result (line_head of.entry.over.plan.now of.entry.service word.now) }
 {
-    let name = LineWord::Text(over.name_of(service));
+    let name = LineWord::Text(of.over.name_of(of.service));
     match page.put(sink, word) {
         Ok(()) => page.put_next(sink, name),
         Err(fault) => Err(fault),

@@ -6,4 +6,4 @@ abbrev pub ghost-spoke_at : goal.ghost-spoke_at
 ghost-spoke_at g a = g.before
 
 abbrev pub invariant-loop-place : goal.invariant-loop-place
-invariant-loop-place g l = l.spokes.items ++ map (spoke_by l.plan g.before l.faults) (drop l.place-index l.places) ≡ map (spoke_by l.plan g.before l.faults) l.places
+invariant-loop-place g l = l.spokes.items ++ map (spoke_by l.failed.plan.now g.before l.failed.faults.now) (drop l.place-index l.places) ≡ map (spoke_by l.failed.plan.now g.before l.failed.faults.now) l.places

@@ -10,4 +10,4 @@ ghost-put_name g a = g.before
 
 abbrev pub invariant-loop-circuit : goal.invariant-loop-circuit
 invariant-loop-circuit g l = Putting (lines_written (g.K.Sink.taken l.fn.sink) (g.K.Sink.faults l.fn.sink) l.fn.page) (lines_written (g.K.Sink.taken l.sink) (g.K.Sink.faults l.sink) l.page)
-    (spaced (names_off g.before l.service l.circuit (drop l.circuit l.over.plan.now.circuits))) (spaced (names_off g.before l.service 0 l.over.plan.now.circuits))
+    (spaced (names_off g.before l.of.service l.circuit (drop l.circuit l.of.over.plan.now.circuits))) (spaced (names_off g.before l.of.service 0 l.of.over.plan.now.circuits))

@@ -13,10 +13,10 @@ loop-service-init g c = putting_none _ _
 pub returns-in_err-put_change : goal.returns-in_err-put_change
 returns-in_err-put_change g c =
     let p = err_from_is_err_and c.from_residual.result c.from_residual.ensures.1 in
-    rw p.1 (putting_cut _ _ _ _ _ _ _ (changes_step c.args.worked.over.plan.now g.case.before c.args.worked.faults.now c.loop-service.service c.loop-service.service c.args.worked.over.plan.now.services (search rules)) c.loop-service.invariant c.in_err-put_change.ensures)
+    rw p.1 (putting_cut _ _ _ _ _ _ _ (changes_step c.args.worked.over.plan.now g.case.before g.case.faults c.loop-service.service c.loop-service.service c.args.worked.over.plan.now.services (search rules)) c.loop-service.invariant c.in_err-put_change.ensures)
 
 pub loop-service-preserved : goal.loop-service-preserved
-loop-service-preserved g c = putting_more _ _ _ _ _ _ _ (changes_step c.args.worked.over.plan.now g.case.before c.args.worked.faults.now c.loop-service.service c.loop-service.service c.args.worked.over.plan.now.services (search rules)) c.loop-service.invariant c.in_ok-put_change.ensures
+loop-service-preserved g c = putting_more _ _ _ _ _ _ _ (changes_step c.args.worked.over.plan.now g.case.before g.case.faults c.loop-service.service c.loop-service.service c.args.worked.over.plan.now.services (search rules)) c.loop-service.invariant c.in_ok-put_change.ensures
 
 pub returns : goal.returns
-returns g c = putting_all _ _ _ _ (at_drop_all (λ (rows : List ServicePlan). change_texts c.args.worked.over.plan.now g.case.before c.args.worked.faults.now c.loop-service.service rows) c.args.worked.over.plan.now.services c.loop-service.service (search rules)) c.loop-service.invariant
+returns g c = putting_all _ _ _ _ (at_drop_all (λ (rows : List ServicePlan). change_texts c.args.worked.over.plan.now g.case.before g.case.faults c.loop-service.service rows) c.args.worked.over.plan.now.services c.loop-service.service (search rules)) c.loop-service.invariant

@@ -15,10 +15,10 @@ loop-edge-init g c = putting_none _ _
 pub returns-in_err-put_if : goal.returns-in_err-put_if
 returns-in_err-put_if g c =
     let p = err_from_is_err_and c.from_residual.result c.from_residual.ensures.1 in
-    rw p.1 (putting_cut _ _ _ _ _ _ _ (where_step c.args.over.plan.now g.before c.args.service (in_word c.args.edges) c.loop-edge.edge c.loop-edge.edge c.args.over.plan.now.edges (search rules)) c.loop-edge.invariant c.in_err-put_if.ensures)
+    rw p.1 (putting_cut _ _ _ _ _ _ _ (where_step c.args.of.over.plan.now g.before c.args.of.service (in_word c.args.edges) c.loop-edge.edge c.loop-edge.edge c.args.of.over.plan.now.edges (search rules)) c.loop-edge.invariant c.in_err-put_if.ensures)
 
 pub loop-edge-preserved : goal.loop-edge-preserved
-loop-edge-preserved g c = putting_more _ _ _ _ _ _ _ (where_step c.args.over.plan.now g.before c.args.service (in_word c.args.edges) c.loop-edge.edge c.loop-edge.edge c.args.over.plan.now.edges (search rules)) c.loop-edge.invariant c.in_ok-put_if.ensures
+loop-edge-preserved g c = putting_more _ _ _ _ _ _ _ (where_step c.args.of.over.plan.now g.before c.args.of.service (in_word c.args.edges) c.loop-edge.edge c.loop-edge.edge c.args.of.over.plan.now.edges (search rules)) c.loop-edge.invariant c.in_ok-put_if.ensures
 
 pub returns : goal.returns
-returns g c = putting_all _ _ _ _ (at_drop_all (λ (rows : List EdgePlan). spaced (names_where c.args.over.plan.now g.before c.args.service (in_word c.args.edges) c.loop-edge.edge rows)) c.args.over.plan.now.edges c.loop-edge.edge (search rules)) c.loop-edge.invariant
+returns g c = putting_all _ _ _ _ (at_drop_all (λ (rows : List EdgePlan). spaced (names_where c.args.of.over.plan.now g.before c.args.of.service (in_word c.args.edges) c.loop-edge.edge rows)) c.args.of.over.plan.now.edges c.loop-edge.edge (search rules)) c.loop-edge.invariant

@@ -11,4 +11,4 @@ ghost-put_if g a = g.before
 
 abbrev pub invariant-loop-edge : goal.invariant-loop-edge
 invariant-loop-edge g l = Putting (lines_written (g.K.Sink.taken l.fn.sink) (g.K.Sink.faults l.fn.sink) l.fn.page) (lines_written (g.K.Sink.taken l.sink) (g.K.Sink.faults l.sink) l.page)
-    (spaced (names_where l.over.plan.now g.before l.service (in_word l.edges) l.edge (drop l.edge l.over.plan.now.edges))) (spaced (names_where l.over.plan.now g.before l.service (in_word l.edges) l.from (drop l.from l.over.plan.now.edges)))
+    (spaced (names_where l.of.over.plan.now g.before l.of.service (in_word l.edges) l.edge (drop l.edge l.of.over.plan.now.edges))) (spaced (names_where l.of.over.plan.now g.before l.of.service (in_word l.edges) l.from (drop l.from l.of.over.plan.now.edges)))

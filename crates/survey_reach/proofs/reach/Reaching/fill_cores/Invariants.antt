@@ -7,6 +7,6 @@ ghost-core g a = g.before
 
 abbrev pub invariant-loop-edge : goal.invariant-loop-edge
 invariant-loop-edge g l = record {
-  cores : AreCores l.plan g.before l.faults l.shape.service l.edge l.self.cores.items;
+  cores : AreCores l.failed.plan.now g.before l.failed.faults.now l.shape.service l.edge l.self.cores.items;
   sound : l.self.sound.items ≡ l.fn.self.sound.items;
 }

@@ -1,10 +1,16 @@
 -- The lines over words are those over relations.
+use Rattle.std.proofs.Common.{◌∙◌, rules}
+use Rattle.survey_reach.specs.Words.{has_pair, in_word}
+use Rattle.survey_text.specs.Surveys.{IsServiceOver}
+use Rattle.survey_text.specs.Text.{relation_text}
 use Rattle.survey_text.proofs.TextLemmas.{apart_lines, puts_same}
 use Rattle.survey_text.proofs.service.Service.put_apart.Goals as goal
 
 pub returns : goal.returns
 returns g c =
+    let served : IsServiceOver g.before c.args.over c.args.self.now = search rules in
     let service = c.args.self.now in
     puts_same _ _ _ _ _
-    (apart_lines c.args.over.plan.now g.before service.shape.service c.args.apart.now c.all_pairs-all.result service.sites.at c.cut_edges-cut.result _ c.requires.1.0.checked
-    c.requires.1.1.1 c.all_pairs-all.ensures c.requires.1.1.0.sites.at c.as_slice-edges.ensures c.cut_edges-cut.ensures) c.put_relation.ensures
+    ((λ i. relation_text (c.relation.ensures.of i).over.plan.now g.before (c.relation.ensures.of i).service (c.relation.ensures.word i) (has_pair (c.relation.ensures.pairs i)) (in_word (c.relation.ensures.cut i)))
+    ∙ apart_lines c.args.over.plan.now g.before service.shape.service c.args.apart.now c.all_pairs-all.result service.sites.at c.cut_edges-cut.result _ served.made.checked
+    c.requires.1.1 c.all_pairs-all.ensures served.served.sites.at c.as_slice-edges.ensures c.cut_edges-cut.ensures) c.put.ensures

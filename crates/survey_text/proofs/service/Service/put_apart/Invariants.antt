@@ -1,4 +1,4 @@
 use Rattle.survey_text.proofs.service.Service.put_apart.Given as goal
 
-abbrev pub ghost-put_relation : goal.ghost-put_relation
-ghost-put_relation g a = g.before
+abbrev pub ghost-put : goal.ghost-put
+ghost-put g a = g.before

@@ -1,4 +1,0 @@
-use Rattle.survey_text.proofs.relation.put_cut_line.Given as goal
-
-abbrev pub ghost-put_sites : goal.ghost-put_sites
-ghost-put_sites g a = g.before
