@@ -1,2 +1,3 @@
+pub mod LaidLemmas
 pub mod LentLemmas
 pub mod WordLemmas

@@ -5,10 +5,12 @@ use Rattle.std.specs.Int.{from_bool}
 use Rattle.std.specs.Fmt.{decimal}
 use Rattle.std.proofs.lemmas.Fmt.{decimal_digit}
 use Rattle.std.proofs.lemmas.List.{append-nil, at_drop_more, drop_all}
+use Rattle.ldp_grammar.specs.declared.message.Message.{Message}
+use Rattle.ldp_grammar.specs.declared.message.Message.TheVariants as message
 use Rattle.pw_tlvs.specs.declared.point.Point.{Point}
 use Rattle.pw_tlvs.proofs.CommonLemmas.{same_point}
 use Rattle.text_pieces.specs.Pieces.{hex, spaced}
-use Rattle.message_text.specs.Words.{description_words, flag, parted, point_word, point_words}
+use Rattle.message_text.specs.Words.{description_words, flag, opening, parted, point_word, point_words}
 
 -- the words from a place on are the one there and those behind it
 pub points_from : (points : List Point) (index : ℕ) (point : Point) → slice_get points index ≡ Some point
@@ -43,16 +45,33 @@ value_told old middle new name value begun told = simp (told, begun, append_asso
 opening_told : (name id parts : List ℕ) → ((codes " " ++ name) ++ codes " id=") ++ (id ++ parts) ≡ (codes " " ++ name) ++ ((codes " " ++ (codes "id=" ++ id)) ++ parts)
 opening_told name id parts = append_assoc (codes " " ++ name) (codes " id=") (id ++ parts)
 
-five_told : (old one two three four new a b c d e : List ℕ) → one ≡ old ++ a → two ≡ one ++ b → three ≡ two ++ c → four ≡ three ++ d → new ≡ four ++ e
-    → new ≡ old ++ ((a ++ (b ++ (c ++ d))) ++ e)
-five_told old one two three four new a b c d e first second third fourth fifth = simp (fifth, fourth, third, second, first, append_assoc)
+three_told : (old one two new a b c : List ℕ) → one ≡ old ++ a → two ≡ one ++ b → new ≡ two ++ c → new ≡ old ++ ((a ++ b) ++ c)
+three_told old one two new a b c first second third = simp (third, second, first, append_assoc)
 
 -- a line is told from its place to its end
-pub line_told : (old one two three four new place name id parts : List ℕ) → one ≡ old ++ place → two ≡ one ++ ((codes " " ++ name) ++ codes " id=") → three ≡ two ++ id
-    → four ≡ three ++ parts → new ≡ four ++ codes "\n" → new ≡ old ++ ((place ++ ((codes " " ++ name) ++ ((codes " " ++ (codes "id=" ++ id)) ++ parts))) ++ codes "\n")
-line_told old one two three four new place name id parts placed named numbered told ends =
-    five_told old one two three four new place ((codes " " ++ name) ++ codes " id=") id parts (codes "\n") placed named numbered told ends
-    ∙ ap (λ (words : List ℕ). old ++ ((place ++ words) ++ codes "\n")) (opening_told name id parts)
+pub line_told : (old one two new place name id parts : List ℕ) → one ≡ old ++ (place ++ (((codes " " ++ name) ++ codes " id=") ++ id)) → two ≡ one ++ parts → new ≡ two ++ codes "\n"
+    → new ≡ old ++ ((place ++ ((codes " " ++ name) ++ ((codes " " ++ (codes "id=" ++ id)) ++ parts))) ++ codes "\n")
+line_told old one two new place name id parts opened told ends =
+    let opening : List ℕ = (codes " " ++ name) ++ codes " id=" in
+    let words : (place ++ (opening ++ id)) ++ parts ≡ place ++ ((codes " " ++ name) ++ ((codes " " ++ (codes "id=" ++ id)) ++ parts)) =
+    append_assoc place (opening ++ id) parts ∙ ap (λ (l : List ℕ). place ++ l) (append_assoc opening id parts ∙ opening_told name id parts) in
+    three_told old one two new (place ++ (opening ++ id)) parts (codes "\n") opened told ends ∙ ap (λ (l : List ℕ). old ++ (l ++ codes "\n")) words
+
+-- what stands around the name of a message is short
+pub opening_short : (m : Message) → length (opening m) ≤ 20
+opening_short (message.Notification id status pw_status fec) = omega arith
+opening_short (message.Hello id hold targeted request transport) = omega arith
+opening_short (message.Initialization id params) = omega arith
+opening_short (message.KeepAlive id) = omega arith
+opening_short (message.Address id family octets) = omega arith
+opening_short (message.AddressWithdraw id addresses fec macs) = omega arith
+opening_short (message.LabelMapping id fec label pw_status points) = omega arith
+opening_short (message.LabelRequest id fec) = omega arith
+opening_short (message.LabelWithdraw id fec label) = omega arith
+opening_short (message.LabelRelease id fec label) = omega arith
+opening_short (message.LabelAbort id fec request) = omega arith
+opening_short (message.Other id u kind) = omega arith
+opening_short (message.Unprocessed id kind why) = omega arith
 
 -- one more item of a list is told, and those behind it are left
 pub next_told : {X : Type 0} (told : List X → List ℕ) (item : X → List ℕ) → ((x : X) (xs : List X) → told (x ∷ xs) ≡ item x ++ told xs)

@@ -7,8 +7,22 @@ use ldp_codec::{MessageView, PduView};
 use net_values::NoMemory;
 use std::alloc::Global;
 
-// Adds the line of a message that is lent, and read for it. A KeepAlive tells no more than its Message ID and is not read.
-#[tactic(auto, using(crate::proofs::LentLemmas::keep_alive_line, crate::proofs::LentLemmas::read_line))]
+// Adds the line of a message that is lent, and read for it. It stands apart, so that room for the message is made for such a line alone.
+#[tactic(auto, using(crate::proofs::LentLemmas::read_line))]
+fn put_read(
+    alloc: Global,
+    text: &mut Vec<u8>,
+    base: u64,
+    view: &MessageView<'_>,
+) -> Result<(), NoMemory>
+    ensures { OnOk result (AddsLine base view.now text.old.items text.new.items) }
+{
+    let message = view.read(alloc)?;
+    put_message(text, base, &message)
+}
+
+// Adds the line of a message that is lent. A KeepAlive tells no more than its Message ID and is not read.
+#[tactic(auto, using(crate::proofs::LentLemmas::keep_alive_line))]
 fn put_view(
     alloc: Global,
     text: &mut Vec<u8>,
@@ -20,8 +34,7 @@ fn put_view(
     if view.is_keep_alive() {
         return put_keep_alive(text, base, view.number());
     }
-    let message = view.read(alloc)?;
-    put_message(text, base, &message)
+    put_read(alloc, text, base, view)
 }
 
 /// Adds the lines of the messages of a PDU that is lent, and begins at this place of its stream.

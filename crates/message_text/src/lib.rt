@@ -4,6 +4,7 @@
 //! `specs/Words.antt` has the words of each part, and `specs/Line.antt` the lines.
 #![tactic(auto)]
 
+mod laid;
 mod lent;
 mod line;
 mod names;

@@ -23,9 +23,9 @@ fn put_status(text: &mut Vec<u8>, status: StatusCode) -> Result<(), NoMemory>
         bit(status.fatal),
         &[
             bit(status.forward),
-            u64::from(status.code),
-            u64::from(status.message),
-            u64::from(status.kind),
+            status.code,
+            status.message,
+            u32::from(status.kind),
         ],
     )
 }
@@ -37,7 +37,7 @@ fn put_hello(text: &mut Vec<u8>, hold: u16, targeted: bool, request: bool) -> Re
     put_told_numbers(
         text,
         b"hold=",
-        u64::from(hold),
+        u32::from(hold),
         &[bit(targeted), bit(request)],
     )
 }
@@ -62,13 +62,13 @@ fn put_session(text: &mut Vec<u8>, params: SessionParams) -> Result<(), NoMemory
     put_told_numbers(
         text,
         b"session=",
-        u64::from(params.version),
+        u32::from(params.version),
         &[
-            u64::from(params.keepalive),
+            u32::from(params.keepalive),
             bit(params.demand),
             bit(params.loops),
-            u64::from(params.limit),
-            u64::from(params.max_pdu),
+            u32::from(params.limit),
+            u32::from(params.max_pdu),
         ],
     )?;
     put_id(text, params.receiver)

@@ -3,7 +3,7 @@ ghost use Rattle.std.specs.Prelude.{◌≡◌, ◌++◌, codes, OnOk};
 ghost use Rattle.text_pieces.specs.Pieces.{spaced};
 ghost use Rattle.message_text.specs.Words.{description_words, element_word, end_word, fec_words, label_words, macs_words, mtu_words, point_word, point_words, pw_status_words, segment_word, told_fec_words, vccv_words, vlan_words};
 
-use crate::pieces::{bit, put_address, put_marked_number, put_told, put_told_numbers};
+use crate::pieces::{bit, put_address, put_told, put_told_numbers};
 use net_values::{Addr, Label, List, Mac, NoMemory, Text};
 use pw_tlvs::{Point, Points, PwFec, PwStatus};
 use text_pieces::{put_digits, put_number, put_text};
@@ -12,15 +12,14 @@ use text_pieces::{put_digits, put_number, put_text};
 fn put_element(text: &mut Vec<u8>, fec: &PwFec) -> Result<(), NoMemory>
     ensures { OnOk result (text.new.items ≡ text.old.items ++ (codes " " ++ element_word fec.now)) }
 {
-    put_told_numbers(
-        text,
-        b"fec=",
-        bit(fec.c),
-        &[u64::from(fec.kind), u64::from(fec.group)],
-    )?;
+    let c = bit(fec.c);
+    let kind = u32::from(fec.kind);
     match fec.pw_id {
-        Some(pw_id) => put_marked_number(text, b'/', u64::from(pw_id)),
-        None => put_text(text, b"/*"),
+        Some(pw_id) => put_told_numbers(text, b"fec=", c, &[kind, fec.group, pw_id]),
+        None => {
+            put_told_numbers(text, b"fec=", c, &[kind, fec.group])?;
+            put_text(text, b"/*")
+        }
     }
 }
 
@@ -63,8 +62,8 @@ fn put_vccv(text: &mut Vec<u8>, vccv: Option<(u8, u8)>) -> Result<(), NoMemory>
         Some((channels, checks)) => put_told_numbers(
             text,
             b"vccv=",
-            u64::from(channels),
-            &[u64::from(checks)],
+            u32::from(channels),
+            &[u32::from(checks)],
         ),
         None => Ok(()),
     }
