@@ -97,18 +97,15 @@ pw_id_word (Some pw_id) = decimal pw_id
 abbrev pub element_word : PwFec → List ℕ
 element_word fec = codes "fec=" ++ parted (codes "/") (flag fec.c ∷ decimal fec.kind ∷ decimal fec.group ∷ pw_id_word fec.pw_id ∷ [])
 
-abbrev pub mtu_words : Option ℕ → List (List ℕ)
-mtu_words None = []
-mtu_words (Some mtu) = (codes "mtu=" ++ decimal mtu) ∷ []
+-- an interface parameter that is a number
+abbrev pub parameter_words : List ℕ → Option ℕ → List (List ℕ)
+parameter_words name None = []
+parameter_words name (Some number) = (name ++ decimal number) ∷ []
 
 -- the octets of a description in hexadecimal; an empty one is none
 abbrev pub description_words : List ℕ → List (List ℕ)
 description_words [] = []
 description_words (octet ∷ octets) = (codes "description=" ++ hex (octet ∷ octets)) ∷ []
-
-abbrev pub vlan_words : Option ℕ → List (List ℕ)
-vlan_words None = []
-vlan_words (Some vlan) = (codes "vlan=" ++ decimal vlan) ∷ []
 
 -- the bits of the control channel types and of the connectivity verification types
 abbrev pub vccv_words : Option (ℕ × ℕ) → List (List ℕ)
@@ -117,7 +114,7 @@ vccv_words (Some pair) = (codes "vccv=" ++ parted (codes "/") (decimal pair.0 �
 
 -- the interface parameters that are there
 abbrev pub params_words : IfParams → List (List ℕ)
-params_words p = ((mtu_words p.mtu ++ description_words p.description) ++ vlan_words p.vlan) ++ vccv_words p.vccv
+params_words p = ((parameter_words (codes "mtu=") p.mtu ++ description_words p.description) ++ parameter_words (codes "vlan=") p.vlan) ++ vccv_words p.vccv
 
 -- a FEC element and its interface parameters
 abbrev pub fec_words : PwFec → List (List ℕ)

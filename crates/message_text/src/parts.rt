@@ -100,21 +100,16 @@ fn put_type(text: &mut Vec<u8>, kind: u16) -> Result<(), NoMemory>
     put_told(text, b"type=", u64::from(kind))
 }
 
-// Adds a name and what it names.
-fn put_named(text: &mut Vec<u8>, name: &[u8], named: &[u8]) -> Result<(), NoMemory>
-    ensures { OnOk result (text.new.items ≡ text.old.items ++ spaced ((name.now ++ named.now) ∷ [])) }
-{
-    put_word(text, name)?;
-    put_text(text, named)
-}
-
 // Adds why a message is not processed.
 fn put_why(text: &mut Vec<u8>, why: Why) -> Result<(), NoMemory>
     ensures { OnOk result (text.new.items ≡ text.old.items ++ spaced (why_word why ∷ [])) }
 {
     match why {
         Why::UnknownTlv(kind) => put_told(text, b"why=UnknownTlv:", u64::from(kind)),
-        Why::Missing(field) => put_named(text, b"why=Missing:", field_text(field).as_bytes()),
+        Why::Missing(field) => {
+            put_word(text, b"why=Missing:")?;
+            put_text(text, field_text(field).as_bytes())
+        }
         Why::UnknownFec(octet) => put_told(text, b"why=UnknownFec:", u64::from(octet)),
     }
 }

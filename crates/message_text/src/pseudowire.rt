@@ -1,7 +1,7 @@
 //! The parts of a message that are about pseudowires, each with a blank before it.
 ghost use Rattle.std.specs.Prelude.{◌≡◌, ◌++◌, codes, OnOk};
 ghost use Rattle.text_pieces.specs.Pieces.{spaced};
-ghost use Rattle.message_text.specs.Words.{description_words, element_word, end_word, fec_words, label_words, macs_words, mtu_words, point_word, point_words, pw_status_words, segment_word, told_fec_words, vccv_words, vlan_words};
+ghost use Rattle.message_text.specs.Words.{description_words, element_word, end_word, fec_words, label_words, macs_words, parameter_words, point_word, point_words, pw_status_words, segment_word, told_fec_words, vccv_words};
 
 use crate::pieces::{bit, put_address, put_told, put_told_numbers};
 use net_values::{Addr, Label, List, Mac, NoMemory, Text};
@@ -23,12 +23,12 @@ fn put_element(text: &mut Vec<u8>, fec: &PwFec) -> Result<(), NoMemory>
     }
 }
 
-// Adds the MTU, where it is told.
-fn put_mtu(text: &mut Vec<u8>, mtu: Option<u16>) -> Result<(), NoMemory>
-    ensures { OnOk result (text.new.items ≡ text.old.items ++ spaced (mtu_words mtu)) }
+// Adds a number of 16 bits under its name, where it is told.
+fn put_parameter(text: &mut Vec<u8>, name: &[u8], number: Option<u16>) -> Result<(), NoMemory>
+    ensures { OnOk result (text.new.items ≡ text.old.items ++ spaced (parameter_words name.now number)) }
 {
-    match mtu {
-        Some(mtu) => put_told(text, b"mtu=", u64::from(mtu)),
+    match number {
+        Some(number) => put_told(text, name, u64::from(number)),
         None => Ok(()),
     }
 }
@@ -42,16 +42,6 @@ fn put_description(text: &mut Vec<u8>, description: &Text<80>) -> Result<(), NoM
     }
     put_text(text, b" description=")?;
     put_digits(text, description.as_slice())
-}
-
-// Adds the VLAN ID, where it is told.
-fn put_vlan(text: &mut Vec<u8>, vlan: Option<u16>) -> Result<(), NoMemory>
-    ensures { OnOk result (text.new.items ≡ text.old.items ++ spaced (vlan_words vlan)) }
-{
-    match vlan {
-        Some(vlan) => put_told(text, b"vlan=", u64::from(vlan)),
-        None => Ok(()),
-    }
 }
 
 // Adds what VCCV can do, where it is told.
@@ -74,9 +64,9 @@ pub fn put_fec(text: &mut Vec<u8>, fec: &PwFec) -> Result<(), NoMemory>
     ensures { OnOk result (text.new.items ≡ text.old.items ++ spaced (fec_words fec.now)) }
 {
     put_element(text, fec)?;
-    put_mtu(text, fec.params.mtu)?;
+    put_parameter(text, b"mtu=", fec.params.mtu)?;
     put_description(text, &fec.params.description)?;
-    put_vlan(text, fec.params.vlan)?;
+    put_parameter(text, b"vlan=", fec.params.vlan)?;
     put_vccv(text, fec.params.vccv)
 }
 
