@@ -8,5 +8,8 @@ use Rattle.message_text.proofs.parts.put_addresses.Goals as goal
 
 pub returns : goal.returns
 returns c =
-    on_ok_weaker c.put_digits.result (λ told. pair_told c.args.text.now.items c.put_told.new.text.items c.push.new.self.items c.put_digits.new.text.items (codes "addresses=") (decimal c.args.family) (hex c.args.octets.now)
-    (c.in_ok-put_told.ensures ∙ ap (λ (number : ℕ). c.args.text.now.items ++ spaced ((codes "addresses=" ++ decimal number) ∷ [])) c.from.ensures) c.in_ok-push.ensures.items (told ∙ ap (λ (octets : List ℕ). c.push.new.self.items ++ hex octets) c.as_slice.ensures)) c.put_digits.ensures
+    let old = c.args.text.now.items in
+    let marked = c.push.new.self.items in
+    let family = ap (λ (number : ℕ). old ++ spaced ((codes "addresses=" ++ decimal number) ∷ [])) c.from.ensures in
+    on_ok_weaker c.put_digits.result (λ told. pair_told old c.put_told.new.text.items marked c.put_digits.new.text.items (codes "addresses=") (decimal c.args.family) (hex c.args.octets.now)
+    (c.in_ok-put_told.ensures ∙ family) c.in_ok-push.ensures.items (told ∙ ap (λ (octets : List ℕ). marked ++ hex octets) c.as_slice.ensures)) c.put_digits.ensures

@@ -12,5 +12,7 @@ named old middle new name digits word first second is = simp (second, first, is,
 pub returns : goal.returns
 returns c =
     let some : length c.args.description.now ≢ 0 = λ none. c.if-len-eq0.false (c.len.ensures.count ∙ none) in
-    on_ok_weaker c.put_digits.result (λ told. named c.args.text.now.items c.put_text.new.text.items c.put_digits.new.text.items (codes " description=") (hex c.args.description.now) (spaced (description_words c.args.description.now))
-    c.in_ok-put_text.ensures (told ∙ ap (λ (octets : List ℕ). c.put_text.new.text.items ++ hex octets) c.as_slice.ensures) (description_told c.args.description.now some)) c.put_digits.ensures
+    let begun = c.put_text.new.text.items in
+    let digits = hex c.args.description.now in
+    on_ok_weaker c.put_digits.result (λ told. named c.args.text.now.items begun c.put_digits.new.text.items (codes " description=") digits (spaced (description_words c.args.description.now))
+    c.in_ok-put_text.ensures (told ∙ ap (λ (octets : List ℕ). begun ++ hex octets) c.as_slice.ensures) (description_told c.args.description.now some)) c.put_digits.ensures

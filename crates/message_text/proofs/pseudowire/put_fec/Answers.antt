@@ -18,5 +18,6 @@ returns c =
     let described = c.put_description.new.text.items in
     let first = both_told begun c.put_parameter.new.text.items described mtu (description_words p.description) c.in_ok-put_parameter.ensures c.in_ok-put_description.ensures in
     let second = both_told begun described c.put_parameter-2.new.text.items (mtu ++ description_words p.description) vlan first c.in_ok-put_parameter-2.ensures in
-    on_ok_weaker c.put_vccv.result (λ told. both_told begun c.put_parameter-2.new.text.items c.put_vccv.new.text.items ((mtu ++ description_words p.description) ++ vlan) (vccv_words p.vccv) second told
+    on_ok_weaker c.put_vccv.result (λ told. both_told begun c.put_parameter-2.new.text.items c.put_vccv.new.text.items ((mtu ++ description_words p.description) ++ vlan)
+    (vccv_words p.vccv) second told
     ∙ (ap (λ (text : List ℕ). text ++ spaced (params_words p)) c.in_ok-put_element.ensures ∙ append_assoc old (codes " " ++ element_word fec) (spaced (params_words p)))) c.put_vccv.ensures
