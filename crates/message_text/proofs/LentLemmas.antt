@@ -8,7 +8,7 @@ use Rattle.message_text.specs.Lent.{AddsLine, AddsLines}
 use Rattle.message_text.specs.Line.{decoded_line, decoded_lines}
 
 -- the line of a KeepAlive, and of a message that was read
-pub keep_alive_line : (base : ℕ) (s : Spelling) (id : ℕ) (before after : List ℕ) → StandsFor s (message.KeepAlive s.id) → id ≡ s.id → after
+keep_alive_line : (base : ℕ) (s : Spelling) (id : ℕ) (before after : List ℕ) → StandsFor s (message.KeepAlive s.id) → id ≡ s.id → after
     ≡ before ++ decoded_line base (message.KeepAlive id) → AddsLine base s before after
 keep_alive_line base s id before after stands is line = record { message = message.KeepAlive s.id; stands = stands; line = line ∙ ap (λ (n : ℕ). before ++ decoded_line base (message.KeepAlive n)) is }
 
@@ -48,6 +48,12 @@ adds_more base spellings old new spelling before now after so is line =
             ∙ (append_assoc before (decoded_lines base first.messages) (decoded_line base line.message) ∙ ap (λ (l : List ℕ). before ++ l) (sym (one_more base first.messages line.message))));
       };
     }
+
+-- the line of a KeepAlive, which was not read, stands behind them
+pub adds_keep_alive : (base : ℕ) (spellings old new : List Spelling) (s : Spelling) (id : ℕ) (before now after : List ℕ) → AddsSoFar base spellings old before now → old ≡ s ∷ new
+    → StandsFor s (message.KeepAlive s.id) → id ≡ s.id → after ≡ now ++ decoded_line base (message.KeepAlive id) → AddsSoFar base spellings new before after
+adds_keep_alive base spellings old new s id before now after so is stands number line =
+    adds_more base spellings old new s before now after so is (keep_alive_line base s id now after stands number line)
 
 pub adds_all : (base : ℕ) (spellings left : List Spelling) (before now : List ℕ) → AddsSoFar base spellings left before now → left ≡ [] → AddsLines base spellings before now
 adds_all base spellings left before now so none =

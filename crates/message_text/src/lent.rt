@@ -21,24 +21,9 @@ fn put_read(
     put_message(text, base, &message)
 }
 
-// Adds the line of a message that is lent. A KeepAlive tells no more than its Message ID and is not read.
-#[tactic(auto, using(crate::proofs::LentLemmas::keep_alive_line))]
-fn put_view(
-    alloc: Global,
-    text: &mut Vec<u8>,
-    base: u64,
-    view: &MessageView<'_>,
-) -> Result<(), NoMemory>
-    ensures { OnOk result (AddsLine base view.now text.old.items text.new.items) }
-{
-    if view.is_keep_alive() {
-        return put_keep_alive(text, base, view.number());
-    }
-    put_read(alloc, text, base, view)
-}
-
-/// Adds the lines of the messages of a PDU that is lent, and begins at this place of its stream.
-#[tactic(auto, using(crate::proofs::LentLemmas::adds_none, crate::proofs::LentLemmas::adds_more, crate::proofs::LentLemmas::adds_all))]
+/// Adds the lines of the messages of a PDU that is lent, and begins at this place of its stream. A KeepAlive tells no more than its
+/// Message ID and is not read.
+#[tactic(auto, using(crate::proofs::LentLemmas::adds_keep_alive, crate::proofs::LentLemmas::adds_none, crate::proofs::LentLemmas::adds_more, crate::proofs::LentLemmas::adds_all))]
 pub fn put_views(
     alloc: Global,
     text: &mut Vec<u8>,
@@ -49,7 +34,11 @@ pub fn put_views(
 {
     let mut left = pdu.messages();
     'adding: while let Some(message) = left.next() {
-        put_view(alloc, text, base, &message)?;
+        if message.is_keep_alive() {
+            put_keep_alive(text, base, message.number())?;
+        } else {
+            put_read(alloc, text, base, &message)?;
+        }
     }
     Ok(())
 }
