@@ -1,5 +1,5 @@
 -- What may stand behind `do`: a command that a script may say, or a word that is wrong, the fifth one at most.
-use Rattle.std.proofs.Common.{◌≡◌, ◌≤◌, ◌||◌, ◌⊎◌, ◌∙◌, ℕ, Bool, true, false, List, ◌∷◌, drop, Option, Some, None, option_and_then, Result, Ok, Err, if◌then◌else◌, not, is_some, codes, inl, inr, refl, sym, ap, subst, arith}
+use Rattle.std.proofs.Common.{◌≡◌, ◌≤◌, ◌||◌, ◌⊎◌, ◌∙◌, ℕ, Bool, true, false, List, length, Option, Some, None, option_and_then, Result, Ok, Err, if◌then◌else◌, not, is_some, codes, inl, inr, refl, sym, ap, subst, arith}
 use Rattle.std.specs.Str.{bytes_eq}
 use Rattle.net_base.specs.declared.plan.Plan.{Plan}
 use Rattle.net_base.specs.declared.trace.event.Event.{Event}
@@ -10,9 +10,9 @@ use Rattle.script_text.specs.Script.{words_of}
 use Rattle.script_text.proofs.PartLemmas.{words_begin}
 use Rattle.line_shapes.specs.Laws.{have_kinds}
 use Rattle.line_shapes.specs.Shapes.{AreShort, first_said, form_at, line_said}
-use Rattle.line_shapes.proofs.AgainLemmas.{again}
+use Rattle.line_shapes.proofs.ReadLemmas.{read_is}
 use Rattle.line_shapes.proofs.StopLemmas.{StopsBy, line_early}
-use Rattle.line_shapes.proofs.TableLemmas.{AllBelow, are_kinds, below_all, line_within}
+use Rattle.line_shapes.proofs.TableLemmas.{AllBelow, are_kinds, below_all}
 use Rattle.event_rows.specs.Rows.{event_forms, event_made}
 use Rattle.command_text.specs.declared.command.Command.{Command}
 use Rattle.command_text.specs.declared.command.Command.TheVariants.{One}
@@ -74,7 +74,7 @@ one_fine read fine = then_fine IsSaid IsScripted read (λ event. Ok (One event))
 abbrev MayBeSaid : ℕ → Type 0
 MayBeSaid row = (v : List ℕ) → IsSaid (event_made row v) ⊎ (is_barred (form_at event_forms row).word ≡ true)
 
-may_be_said : AllBelow MayBeSaid 13
+may_be_said : AllBelow MayBeSaid (length event_forms)
 may_be_said = (
   ((((((((((((tt, λ v. inl tt), λ v. inl tt), λ v. inl tt), λ v. inl tt), λ v. inr refl), λ v. inl tt), λ v. inl tt), λ v. inr refl), λ v. inl tt), λ v. inl tt), λ v. inl tt), λ v. inl tt),
   λ v. inl tt,
@@ -106,13 +106,14 @@ module _ (plan : Plan) (event : ℕ) (text : List ℕ) where
   row_fine allowed = of_read (line_said plan event_forms (words_of text)) refl (line_early plan event_forms (words_of text) are_short)
     where
       of_read : (r : Result (ℕ × List ℕ) ℕ) → line_said plan event_forms (words_of text) ≡ r → StopsBy 5 r → Fine IsSaid (event_by event r)
-      of_read (Ok read) is early = elim (below_all MayBeSaid 13 read.0 may_be_said (line_within plan event_forms (words_of text) read is) read.1) [
-        | inl said ↦ said
-        | inr barred ↦
-            let begins : line_said plan event_forms (first_word text ∷ drop 1 (words_of text)) ≡ Ok read = ap (line_said plan event_forms) (sym (words_begin text)) ∙ is in
-            let same = ap first_said (again plan event_forms (first_word text) (drop 1 (words_of text)) read (are_kinds event_forms read.0 refl) begins) in
-            absurd (true_not_false (sym barred ∙ ap is_barred same ∙ allowed))
-      ]
+      of_read (Ok read) is early =
+          let line = read_is plan event_forms (words_of text) read is in
+          elim (below_all MayBeSaid (length event_forms) read.0 may_be_said line.within read.1) [
+            | inl said ↦ said
+            | inr barred ↦
+                let same : (form_at event_forms read.0).word ≡ first_word text = ap first_said (line.same (are_kinds event_forms read.0 refl)) ∙ ap first_said (words_begin text) in
+                absurd (true_not_false (sym barred ∙ ap is_barred same ∙ allowed))
+          ]
       of_read (Err word) is early = early
 
   command_fine : (word : List ℕ) → is_barred (first_word text) ≡ false → bytes_eq word (codes "tick") ≡ false → bytes_eq word (codes "play") ≡ false → Fine IsScripted (command_of plan event 0 word text)

@@ -1,7 +1,6 @@
 -- Each event is read from its words.
-use Rattle.std.proofs.Common.{◌≡◌, ◌<◌, ◌≤◌, ◌∙◌, ◌==◌, ◌&&◌, ◌||◌, not, ℕ, Bool, true, false, List, [], ◌∷◌, Ok, inl, inr, refl, sym, ap, subst, arith}
+use Rattle.std.proofs.Common.{◌≡◌, ◌<◌, ◌≤◌, ◌∙◌, ◌==◌, ◌&&◌, ◌||◌, not, ℕ, Bool, true, false, List, [], ◌∷◌, length, Ok, inl, inr, refl, sym, ap, subst, arith}
 use Rattle.std.specs.Prelude.{codes}
-use Rattle.std.specs.List.{list_all}
 use Rattle.std.specs.Str.{bytes_eq}
 use Rattle.std.proofs.lemmas.Bool.{and_parts, cases_Bool, eqb-true, not-true}
 use Rattle.net_base.specs.declared.plan.Plan.{Plan}
@@ -13,30 +12,28 @@ use Rattle.net_base.specs.plan.Planned.{IsEventOf}
 use Rattle.plan_names.specs.Names.{place_in}
 use Rattle.plan_names.specs.Planned.{HasNames}
 use Rattle.plan_names.proofs.BelowLemmas.{all_below, below_at}
-use Rattle.event_rows.specs.Named.{IsNamedEvent}
+use Rattle.event_rows.specs.Rows.{event_words, event_forms, event_made, IsNamedEvent}
 use Rattle.line_shapes.specs.Words.{circuit_name}
-use Rattle.event_rows.specs.Rows.{event_words}
 use Rattle.text_pieces.specs.Pieces.{hex}
 use Rattle.command_text.specs.Words.{word_at}
 use Rattle.script_text.specs.Parts.{parted_by}
-use Rattle.script_text.specs.Script.{is_graphic, spaced_words, words_of}
+use Rattle.script_text.specs.Script.{spaced_words, words_of}
 use Rattle.script_text.proofs.PartLemmas.{AreWhole, words_again}
 use Rattle.line_shapes.specs.Laws.{have_kinds, have_words}
 use Rattle.line_shapes.specs.Shapes.{AreValuesOf, form_at, line_said, nth_value, row_words, value_words}
 use Rattle.line_shapes.proofs.LawLemmas.{reads as row_reads}
 use Rattle.line_shapes.proofs.NameLemmas.{row_said}
 use Rattle.line_shapes.proofs.TableLemmas.{AllBelow, IsRow, are_kinds, below_all, words_differ}
-use Rattle.event_rows.specs.Rows.{event_forms, event_made}
 use Rattle.event_rows.proofs.RowLemmas.{event_row}
 use Rattle.command_text.specs.declared.command.Command.TheVariants.{One}
 use Rattle.command_text.specs.Events.{command_in, command_of, event_by, frame_event_in, one, row_event_in}
 use Rattle.command_text.specs.Hex.{frame_of}
 use Rattle.event_laws.specs.Law.{IsEventInRange, IsPacket, ReadsWhatIsWritten}
 use Rattle.event_laws.proofs.ReadLemmas.{by_word, ends_is, said_is}
-use Rattle.event_laws.proofs.ValueLemmas.{AreGraphic, IsGraphic, frame_said, octets_graphic, row_graphic, values_graphic, whole_words}
+use Rattle.event_laws.proofs.ValueLemmas.{AreGraphic, frame_said, octets_graphic, row_graphic, row_words_graphic, whole_words}
 
 -- an event that a scenario can write is one of those that have a row, or a frame
-named_of : (plan : Plan) (x : Event) → IsEventOf plan x → IsEventInRange x → IsNamedEvent plan x
+pub named_of : (plan : Plan) (x : Event) → IsEventOf plan x → IsEventInRange x → IsNamedEvent plan x
 named_of plan (Connect from to) of in_ = (of.0, of.1)
 named_of plan (Deliver from to count) of in_ = (of.0, (of.1, in_))
 named_of plan (Lose edge peer) of in_ = (of.0, of.1)
@@ -73,25 +70,15 @@ plain_command plan number plays word text plain =
       not-true (bytes_eq word (codes "play")) flow.1,
     ) refl
 
-plain_row : (row : ℕ) → row < 13 → (row == 7) ≡ false → is_plain (form_at event_forms row).word ≡ true
+plain_row : (row : ℕ) → row < length event_forms → (row == 7) ≡ false → is_plain (form_at event_forms row).word ≡ true
 unfolding all_below
-plain_row row lt other = by (row == 7) other (below_at (λ n. (n == 7) || is_plain (form_at event_forms n).word) 13 row refl lt) where
+plain_row row lt other = by (row == 7) other (below_at (λ n. (n == 7) || is_plain (form_at event_forms n).word) (length event_forms) row refl lt) where
   by : (b : Bool) → b ≡ false → b || is_plain (form_at event_forms row).word ≡ true → is_plain (form_at event_forms row).word ≡ true
   by true other is = absurd (cc)
   by false other is = is
 
-row_word : (row : ℕ) → row < 13 → IsGraphic (form_at event_forms row).word
-unfolding all_below
-row_word row lt = below_at (λ n. list_all is_graphic (form_at event_forms n).word) 13 row refl lt
-
-row_words_graphic : (plan : Plan) (row : ℕ) (values : List ℕ) → HasNames plan → row < 13 → AreValuesOf plan (form_at event_forms row).kinds values
-    → AreGraphic (row_words plan (form_at event_forms row) values)
-unfolding have_kinds
-row_words_graphic plan row values names lt fit = (row_word row lt, values_graphic plan (form_at event_forms row).kinds values names (are_kinds event_forms row refl) fit)
-
-frame_graphic : (plan : Plan) (circuit : CircuitId) (octets : List ℕ) → HasNames plan → IsEventOf plan (Frame circuit octets) → IsEventInRange (Frame circuit octets)
-    → AreGraphic (event_words plan (Frame circuit octets))
-frame_graphic plan circuit octets names of in_ = (refl, (row_graphic (λ row. row.name) plan.circuits circuit.0 names.circuits of.0, (octets_graphic octets in_.each, tt)))
+frame_graphic : (plan : Plan) (circuit : CircuitId) (octets : List ℕ) → HasNames plan → IsNamedEvent plan (Frame circuit octets) → AreGraphic (event_words plan (Frame circuit octets))
+frame_graphic plan circuit octets names is = (refl, (row_graphic (λ row. row.name) plan.circuits circuit.0 names.circuits is.0, (octets_graphic octets is.1.0, tt)))
 
 tick_read : (plan : Plan) (number plays : ℕ) → command_in plan number plays (spaced_words (codes "tick" ∷ [])) ≡ Ok (One Tick)
 unfolding command_of word_at parted_by
@@ -116,7 +103,7 @@ module _ (plan : Plan) (number plays : ℕ) (names : HasNames plan) where
       of_row other =
           let word : List ℕ = (form_at event_forms told.row).word in
           let rest : List (List ℕ) = value_words plan (form_at event_forms told.row).kinds told.values in
-          let whole : AreWhole (word ∷ rest) = whole_words (word ∷ rest) (row_words_graphic plan told.row told.values names told.within told.fit) in
+          let whole : AreWhole (word ∷ rest) = whole_words (word ∷ rest) (row_words_graphic plan event_forms told.row told.values names refl refl told.fit) in
           by_word plan number plays word rest (One (event_made told.row told.values)) whole
           (plain_command plan number plays word (spaced_words (word ∷ rest)) (plain_row told.row told.within other)
           ∙ ap (λ (l : List (List ℕ)). one (event_by number (line_said plan event_forms l))) (words_again word rest whole)
@@ -128,7 +115,7 @@ module _ (plan : Plan) (number plays : ℕ) (names : HasNames plan) where
   frame_read circuit octets of in_ =
       let word : List ℕ = codes "frame" in
       let rest : List (List ℕ) = circuit_name plan circuit ∷ hex octets ∷ [] in
-      let whole : AreWhole (word ∷ rest) = whole_words (word ∷ rest) (frame_graphic plan circuit octets names of in_) in
+      let whole : AreWhole (word ∷ rest) = whole_words (word ∷ rest) (frame_graphic plan circuit octets names (named_of plan (Frame circuit octets) of in_)) in
       let again : words_of (spaced_words (word ∷ rest)) ≡ word ∷ rest = words_again word rest whole in
       let said2 = said_is (place_in (circuit_names plan.circuits)) number 2 (spaced_words (word ∷ rest)) (circuit_name plan circuit) (word ∷ rest) circuit.0 again refl
       (row_said (λ row. row.name) plan.circuits circuit.0 names.circuits of.0) in
@@ -146,11 +133,11 @@ reads plan x number plays names of in_ = elim (event_row plan x (named_of plan x
 ]
 
 -- and they are graphic
-pub event_graphic : (plan : Plan) (x : Event) → HasNames plan → IsEventOf plan x → IsEventInRange x → AreGraphic (event_words plan x)
-event_graphic plan x names of in_ = elim (event_row plan x (named_of plan x of in_)) [
-  | inl frame ↦
-      subst (λ (e : Event). IsEventOf plan e → IsEventInRange e → AreGraphic (event_words plan e)) (sym frame.is) (frame_graphic plan frame.circuit frame.octets names) of in_
-  | inr told ↦ subst AreGraphic (sym told.written) (row_words_graphic plan told.row told.values names told.within told.fit)
+pub event_graphic : (plan : Plan) (x : Event) → HasNames plan → IsNamedEvent plan x → AreGraphic (event_words plan x)
+unfolding have_kinds
+event_graphic plan x names is = elim (event_row plan x is) [
+  | inl frame ↦ subst (λ (e : Event). IsNamedEvent plan e → AreGraphic (event_words plan e)) (sym frame.is) (frame_graphic plan frame.circuit frame.octets names) is
+  | inr told ↦ subst AreGraphic (sym told.written) (row_words_graphic plan event_forms told.row told.values names refl refl told.fit)
 ]
 
 -- ---- the other way
@@ -159,7 +146,7 @@ event_graphic plan x names of in_ = elim (event_row plan x (named_of plan x of i
 abbrev InRange : Plan → ℕ → Type 0
 InRange plan row = (v : List ℕ) → AreValuesOf plan (form_at event_forms row).kinds v → IsEventInRange (event_made row v)
 
-ranges : (plan : Plan) → AllBelow (InRange plan) 13
+ranges : (plan : Plan) → AllBelow (InRange plan) (length event_forms)
 ranges plan =
     let packet : (n : ℕ) → (1 ≤ n) × (n ≤ 18446744073709551615) → IsPacket n = λ n fit. (fit.0, omega (arith, fit.1)) in (
       (
@@ -190,5 +177,5 @@ ranges plan =
       λ v fit. tt,
     )
 
-pub row_in_range : (plan : Plan) (row : ℕ) (values : List ℕ) → row < 13 → AreValuesOf plan (form_at event_forms row).kinds values → IsEventInRange (event_made row values)
-row_in_range plan row values lt fit = below_all (InRange plan) 13 row (ranges plan) lt values fit
+pub row_in_range : (plan : Plan) (row : ℕ) (values : List ℕ) → row < length event_forms → AreValuesOf plan (form_at event_forms row).kinds values → IsEventInRange (event_made row values)
+row_in_range plan row values lt fit = below_all (InRange plan) (length event_forms) row (ranges plan) lt values fit

@@ -1,5 +1,5 @@
 -- What names, numbers, octets and switches say.
-use Rattle.std.proofs.Common.{◌≡◌, ◌<◌, ◌≤◌, ◌+◌, ◌*◌, ◌/◌, ◌%◌, ◌^◌, ◌==◌, ◌&&◌, ℕ, suc, Bool, true, List, [], ◌∷◌, length, map, get_or, slice_get, slice_index, Option, Some, None, option_map, unwrap_or, nat_le, refl, ap, arith}
+use Rattle.std.proofs.Common.{◌≡◌, ◌<◌, ◌≤◌, ◌+◌, ◌*◌, ◌/◌, ◌%◌, ◌^◌, ◌==◌, ◌&&◌, ℕ, zero, suc, Bool, true, List, [], ◌∷◌, length, map, get_or, slice_get, slice_index, Option, Some, None, option_map, unwrap_or, nat_le, refl, ap, arith}
 use Rattle.std.proofs.lemmas.List.{length-map}
 use Rattle.std.specs.Fmt.{decimal}
 use Rattle.std.specs.List.{All, list_all}
@@ -23,8 +23,9 @@ use Rattle.line_shapes.proofs.NameLemmas.{row_name}
 use Rattle.text_pieces.specs.Pieces.{hex}
 use Rattle.net_base.specs.declared.plan.Plan.{Plan}
 use Rattle.plan_names.specs.Planned.{AreNames, HasNames}
-use Rattle.line_shapes.specs.Laws.{AreKinds, IsKind}
-use Rattle.line_shapes.specs.Shapes.{AreValuesOf, IsFit, first_value, value_word, value_words, values_behind}
+use Rattle.line_shapes.specs.Laws.{AreKinds, IsKind, have_kinds}
+use Rattle.line_shapes.specs.Shapes.{AreValuesOf, Form, IsFit, first_value, form_at, row_words, value_word, value_words, values_behind}
+use Rattle.line_shapes.proofs.TableLemmas.{are_kinds}
 use Rattle.line_shapes.specs.declared.kind.Kind.{Kind}
 use Rattle.line_shapes.specs.declared.kind.Kind.TheVariants.{Edge, Circuit, Wire, Between, Number, OneOf}
 use Rattle.event_laws.specs.Law.{IsWritable}
@@ -131,3 +132,14 @@ pub values_graphic : (plan : Plan) (kinds : List Kind) (values : List ℕ) → H
 values_graphic plan [] values names small fit = tt
 values_graphic plan (kind ∷ kinds) values names small fit =
     (word_graphic plan kind (first_value values) names small.0 fit.1.0, values_graphic plan kinds (values_behind values) names small.1 fit.1.1)
+
+form_graphic : (forms : List Form) (row : ℕ) → list_all (λ (f : Form). list_all is_graphic f.word) forms ≡ true → IsGraphic (form_at forms row).word
+form_graphic [] row all = refl
+form_graphic (f ∷ forms) zero all = (parts (list_all is_graphic f.word) (list_all (λ (g : Form). list_all is_graphic g.word) forms) all).0
+form_graphic (f ∷ forms) (suc row) all = form_graphic forms row (parts (list_all is_graphic f.word) (list_all (λ (g : Form). list_all is_graphic g.word) forms) all).1
+
+-- and so are those of a row, where the first words of the table are
+pub row_words_graphic : (plan : Plan) (forms : List Form) (row : ℕ) (values : List ℕ) → HasNames plan → list_all (λ (f : Form). list_all is_graphic f.word) forms ≡ true → have_kinds forms ≡ true
+    → AreValuesOf plan (form_at forms row).kinds values → AreGraphic (row_words plan (form_at forms row) values)
+row_words_graphic plan forms row values names graphic kinds fit =
+    (form_graphic forms row graphic, values_graphic plan (form_at forms row).kinds values names (are_kinds forms row kinds) fit)

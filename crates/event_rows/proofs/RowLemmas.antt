@@ -10,12 +10,10 @@ use Rattle.plan_names.proofs.BelowLemmas.{all_below, below_at}
 use Rattle.line_shapes.specs.Choices.{choice_word, choice_words, switch_place}
 use Rattle.line_shapes.specs.declared.choice.Choice.{Choice}
 use Rattle.line_shapes.specs.declared.choice.Choice.TheVariants as choice
-use Rattle.event_rows.specs.Named.{IsNamedEvent}
-use Rattle.event_rows.specs.Rows.{event_words}
+use Rattle.event_rows.specs.Rows.{event_words, event_forms, event_made, IsNamedEvent}
 use Rattle.line_shapes.specs.Shapes.{AreValuesOf, form_at, row_words, nth_value, value_word}
 use Rattle.line_shapes.specs.declared.kind.Kind.TheVariants as kind
 use Rattle.line_shapes.proofs.TableLemmas.{AllBelow, IsRow, below_all}
-use Rattle.event_rows.specs.Rows.{event_forms, event_made}
 
 -- the word of what a place tells is the word of the place
 pub word_same : {A : Type 0} (c : Choice) (told : ℕ → A) (place : A → ℕ) (n : ℕ) → all_below (λ n. place (told n) == n) (length (choice_words c)) ≡ true → n < length (choice_words c)
@@ -74,7 +72,7 @@ module _ (plan : Plan) where
   ping_row : EventRow plan 12
   ping_row v fit = ((fit.1.0, fit.1.1.1.0), refl)
 
-  pub event_rows : AllBelow (EventRow plan) 13
+  pub event_rows : AllBelow (EventRow plan) (length event_forms)
   event_rows = (((((((((((((tt, deliver_row), arrive_row), discard_row), again_row), connect_row), lose_row), restart_row), tick_row), wire_row), circuit_row), status_row), priority_row), ping_row)
 
   -- ---- the row of each
@@ -116,7 +114,7 @@ module _ (plan : Plan) where
 abbrev OfPlan : Plan → ℕ → Type 0
 OfPlan plan row = (v : List ℕ) → AreValuesOf plan (form_at event_forms row).kinds v → IsEventOf plan (event_made row v)
 
-all_of_plan : (plan : Plan) → AllBelow (OfPlan plan) 13
+all_of_plan : (plan : Plan) → AllBelow (OfPlan plan) (length event_forms)
 all_of_plan plan = ((
   (
     (
@@ -135,5 +133,5 @@ all_of_plan plan = ((
 )
     )
 
-pub row_planned : (plan : Plan) (row : ℕ) (values : List ℕ) → row < 13 → AreValuesOf plan (form_at event_forms row).kinds values → IsEventOf plan (event_made row values)
-row_planned plan row values lt fit = below_all (OfPlan plan) 13 row (all_of_plan plan) lt values fit
+pub row_planned : (plan : Plan) (row : ℕ) (values : List ℕ) → row < length event_forms → AreValuesOf plan (form_at event_forms row).kinds values → IsEventOf plan (event_made row values)
+row_planned plan row values lt fit = below_all (OfPlan plan) (length event_forms) row (all_of_plan plan) lt values fit

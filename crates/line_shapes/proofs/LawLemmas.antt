@@ -1,5 +1,5 @@
 -- Values of a row are read back from their words.
-use Rattle.std.proofs.Common.{◌≡◌, ◌<◌, ◌+◌, ◌++◌, ℕ, zero, suc, false, List, [], ◌∷◌, length, slice_get, Some, None, Ok, refl, sym, ap, arith, ◌==◌, Bool, true, Option, unwrap_or}
+use Rattle.std.proofs.Common.{◌≡◌, ◌<◌, ◌+◌, ◌++◌, ℕ, zero, suc, false, List, [], ◌∷◌, length, slice_get, Some, None, Ok, refl, sym, ap, arith, ◌==◌, Bool, true, Option, unwrap_or, append_assoc, length-append}
 use Rattle.std.specs.List.{position_or_len}
 use Rattle.std.specs.Str.{bytes_eq}
 use Rattle.std.proofs.lemmas.Bool.{eqb-true, lt-ltb}
@@ -57,14 +57,6 @@ at_end : (front : List (List ℕ)) → slice_get (front ++ []) (length front) �
 at_end [] = refl
 at_end (x ∷ front) = at_end front
 
-joined : (front : List (List ℕ)) (word : List ℕ) (words : List (List ℕ)) → (front ++ word ∷ []) ++ words ≡ front ++ word ∷ words
-joined [] word words = refl
-joined (x ∷ front) word words = ap (λ (l : List (List ℕ)). x ∷ l) (joined front word words)
-
-longer : (front : List (List ℕ)) (word : List ℕ) → length (front ++ word ∷ []) ≡ length front + 1
-longer [] word = refl
-longer (x ∷ front) word = let more : length (front ++ word ∷ []) ≡ length front + 1 = longer front word in omega (arith, more)
-
 values_read : (plan : Plan) (front : List (List ℕ)) (kinds : List Kind) (values : List ℕ) (at : ℕ) → at ≡ length front → HasNames plan → AreKinds kinds → AreValuesOf plan kinds values
     → values_said plan (front ++ value_words plan kinds values) at kinds ≡ Ok values
 values_read plan front [] values at is names are fit = rw (is, at_end front, fit) refl
@@ -72,9 +64,10 @@ values_read plan front (kind ∷ kinds) [] at is names are fit = absurd (omega (
 values_read plan front (kind ∷ kinds) (value ∷ values) at is names are fit =
     let word : List ℕ = value_word plan kind value in
     let words : List (List ℕ) = value_words plan kinds values in
-    let size : length (front ++ word ∷ []) ≡ length front + 1 = longer front word in
+    let size : length (front ++ word ∷ []) ≡ length front + 1 = length-append front (word ∷ []) in
+    let joined : (front ++ word ∷ []) ++ words ≡ front ++ word ∷ words = append_assoc front (word ∷ []) words in
     let rest : values_said plan (front ++ word ∷ words) (length front + 1) kinds ≡ Ok values =
-    rw (sym (joined front word words)) (values_read plan (front ++ word ∷ []) kinds values (length front + 1) (sym size) names are.1 fit.1.1) in
+    rw (sym joined) (values_read plan (front ++ word ∷ []) kinds values (length front + 1) (sym size) names are.1 fit.1.1) in
     rw (is, at_front front word words, value_said plan kind value names are.0 fit.1.0, rest) refl
 
 first_row : (forms : List Form) (row : ℕ) → row < length forms → ((a : ℕ) → a < row → bytes_eq (form_at forms a).word (form_at forms row).word ≡ false)

@@ -1,7 +1,6 @@
-pub mod AgainLemmas
-pub mod FitLemmas
 pub mod LawLemmas
 pub mod NameLemmas
+pub mod ReadLemmas
 pub mod RowLemmas
 pub mod StopLemmas
 pub mod TableLemmas

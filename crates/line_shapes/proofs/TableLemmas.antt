@@ -1,17 +1,16 @@
 -- The tests of a table tell what the laws ask of it.
-use Rattle.std.proofs.Common.{◌≡◌, ◌<◌, ◌∙◌, not, ℕ, zero, suc, true, false, List, [], ◌∷◌, length, Option, Some, None, Result, Ok, Err, IfSome, inl, inr, refl, sym, ap, subst, arith}
-use Rattle.std.proofs.lemmas.Bool.{cases_lt, not-true, and_parts}
+use Rattle.std.proofs.Common.{◌≡◌, ◌<◌, ◌≤◌, ◌∙◌, nat_le, not, ℕ, zero, suc, true, false, List, [], ◌∷◌, length, Some, Result, Ok, Err, IfSome, inl, inr, refl, sym, ap, subst, arith}
+use Rattle.std.proofs.lemmas.Bool.{cases_lt, leb-true, not-true, and_parts}
 use Rattle.std.proofs.lemmas.Bool.Decides.{nat_tests}
-use Rattle.std.proofs.lemmas.List.Quantifiers.{position-Some}
 use Rattle.std.specs.List.{list_all}
 use Rattle.std.specs.Str.{bytes_eq}
 use Rattle.net_base.specs.declared.plan.Plan.{Plan}
 use Rattle.plan_names.specs.Planned.{HasNames}
-use Rattle.line_shapes.proofs.AgainLemmas.{again}
-use Rattle.line_shapes.proofs.FitLemmas.{line_fit}
+use Rattle.plan_names.proofs.BelowLemmas.{all_below, below_at}
 use Rattle.line_shapes.proofs.LawLemmas.{reads}
+use Rattle.line_shapes.proofs.ReadLemmas.{read_is}
 use Rattle.line_shapes.specs.Laws.{AreKinds, HaveWords, IsKind, have_kinds, have_words, is_kind}
-use Rattle.line_shapes.specs.Shapes.{◌>>=◌, AreValuesOf, Form, first_said, form_at, word_found, has_word, line_said, row_words, no_form, row_of_word, told_by, values_said}
+use Rattle.line_shapes.specs.Shapes.{AreValuesOf, Form, form_at, line_said, row_words, told_by, value_words, values_behind}
 use Rattle.line_shapes.specs.declared.kind.Kind.{Kind}
 use Rattle.line_shapes.specs.declared.kind.Kind.TheVariants.{Edge, Circuit, Wire, Between, Number, OneOf}
 
@@ -63,30 +62,17 @@ below_all P (suc n) k all lt = elim (cases_lt k n) [
       subst P (sym same) all.1
 ]
 
-row_in : Result (ℕ × List ℕ) ℕ → ℕ
-row_in (Ok read) = read.0
-row_in (Err number) = 0
+as_many : (plan : Plan) (kinds : List Kind) (values : List ℕ) → length (value_words plan kinds values) ≡ length kinds
+as_many plan [] values = refl
+as_many plan (kind ∷ kinds) values = ap suc (as_many plan kinds (values_behind values))
 
-row_kept : (row : ℕ) (r : Result (List ℕ) ℕ) (read : ℕ × List ℕ) → (r >>= (λ values. Ok (row, values))) ≡ Ok read → row ≡ read.0
-unfolding row_in
-row_kept row (Ok values) read is = ap row_in is
-row_kept row (Err number) read is = cc is
-
-row_of_read : (plan : Plan) (forms : List Form) (words : List (List ℕ)) (o : Option ℕ) (read : ℕ × List ℕ) → IfSome o (λ row. row < length forms)
-    → (word_found 1 o >>= (λ row. values_said plan words 1 (form_at forms row).kinds >>= (λ values. Ok (row, values)))) ≡ Ok read → read.0 < length forms
-row_of_read plan forms words None read within e = cc e
-row_of_read plan forms words (Some row) read within e = subst (λ n. n < length forms) (row_kept row (values_said plan words 1 (form_at forms row).kinds) read e) within
-
-row_place : (forms : List Form) (word : List ℕ) → IfSome (row_of_word forms word) (λ row. row < length forms)
-row_place forms word = by (row_of_word forms word) refl where
-  by : (o : Option ℕ) → row_of_word forms word ≡ o → IfSome o (λ row. row < length forms)
-  by None is = tt
-  by (Some row) is = (position-Some (has_word word) forms row no_form is).0
-
--- the row of a line that is read is one of the table
-pub line_within : (plan : Plan) (forms : List Form) (words : List (List ℕ)) (read : ℕ × List ℕ) → line_said plan forms words ≡ Ok read → read.0 < length forms
-unfolding line_said
-line_within plan forms words read e = row_of_read plan forms words (row_of_word forms (first_said words)) read (row_place forms (first_said words)) e
+-- the words of a row are four at most, where the table has no longer one
+pub few_words : (plan : Plan) (forms : List Form) (row : ℕ) (values : List ℕ) → all_below (λ n. nat_le (length (form_at forms n).kinds) 3) (length forms) ≡ true → row < length forms
+    → length (row_words plan (form_at forms row) values) ≤ 4
+few_words plan forms row values short lt =
+    let few : length (form_at forms row).kinds ≤ 3 = leb-true _ 3 (below_at (λ n. nat_le (length (form_at forms n).kinds) 3) (length forms) row short lt) in
+    let many : length (row_words plan (form_at forms row) values) ≡ suc (length (form_at forms row).kinds) = ap suc (as_many plan (form_at forms row).kinds values) in
+    omega (arith, few, many)
 
 -- what holds of each row, its values and the words that are written for them holds of what is read
 pub rows_hold : {A : Type 0} (plan : Plan) (forms : List Form) (made : ℕ → List ℕ → A) (P : A → List (List ℕ) → Type 0) (word : List ℕ) (words : List (List ℕ)) → have_kinds forms ≡ true
@@ -95,8 +81,8 @@ pub rows_hold : {A : Type 0} (plan : Plan) (forms : List Form) (made : ℕ → L
 rows_hold plan forms made P word words kinds each = by (line_said plan forms (word ∷ words)) refl where
   by : (r : Result (ℕ × List ℕ) ℕ) → line_said plan forms (word ∷ words) ≡ r → IfSome (told_by made r) (λ x. P x (word ∷ words))
   by (Ok read) is =
-      subst (P (made read.0 read.1)) (again plan forms word words read (are_kinds forms read.0 kinds) is)
-      (each read.0 (line_within plan forms (word ∷ words) read is) read.1 (line_fit plan forms (word ∷ words) read is))
+      let line = read_is plan forms (word ∷ words) read is in
+      subst (P (made read.0 read.1)) (line.same (are_kinds forms read.0 kinds)) (each read.0 line.within read.1 line.fit)
   by (Err number) is = tt
 
 -- what a row of a table says: the words that are written for its values are read as what they make

@@ -1,6 +1,6 @@
 -- The words of values one by one.
-use Rattle.std.proofs.Common.{◌≡◌, ◌<◌, ◌≤◌, ◌+◌, ◌++◌, ◌∙◌, ℕ, zero, suc, List, [], ◌∷◌, length, map, get_or, drop, take, slice_set, refl, sym, ap, arith, append_assoc}
-use Rattle.std.proofs.lemmas.List.{at_drop_all, map-append, take_more_set}
+use Rattle.std.proofs.Common.{◌≡◌, ◌<◌, ◌+◌, ◌++◌, ◌∙◌, ℕ, zero, suc, List, [], ◌∷◌, length, map, get_or, drop, take, slice_set, refl, sym, ap, arith, append_assoc}
+use Rattle.std.proofs.lemmas.List.{map-append, take_more_set}
 use Rattle.net_base.specs.declared.plan.Plan.{Plan}
 use Rattle.text_lines.specs.Lines.{word_octets}
 use Rattle.text_lines.specs.declared.line_word.LineWord.{LineWord}
@@ -40,16 +40,6 @@ words_more plan kinds values room count place none word value lt few said is sam
 -- the first word
 pub words_first : (room : List LineWord) (word : LineWord) (words : List (List ℕ)) → 0 < length room → map word_octets (take 1 (slice_set room 0 word)) ++ words ≡ word_octets word ∷ words
 words_first room word words some = ap (λ (l : List (List ℕ)). l ++ words) (one_more room 0 word some)
-
-no_more : (words : List (List ℕ)) → words ++ [] ≡ words
-no_more [] = refl
-no_more (word ∷ words) = ap (λ (l : List (List ℕ)). word ∷ l) (no_more words)
-
--- no word is left
-pub words_all : (plan : Plan) (kinds : List Kind) (values : List ℕ) (place : ℕ) (front whole : List (List ℕ)) → length kinds ≤ place
-    → front ++ value_words plan (drop place kinds) values ≡ whole → front ≡ whole
-words_all plan kinds values place front whole past same =
-    sym (no_more front) ∙ (ap (λ (l : List (List ℕ)). front ++ l) (sym (at_drop_all (λ (k : List Kind). value_words plan k values) kinds place past)) ∙ same)
 
 -- the words behind the first one
 pub behind_first : (words : List LineWord) → map word_octets (drop 1 words) ≡ drop 1 (map word_octets words)

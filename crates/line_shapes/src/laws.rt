@@ -9,7 +9,7 @@ pub fn read_what_is_written()
 {}
 
 /// The words that are read as a row and values are those that are written for them, so that two lines that are read alike are the same.
-#[tactic(auto, using(crate::proofs::AgainLemmas::again))]
+#[tactic(auto, using(crate::proofs::ReadLemmas::again))]
 pub fn written_as_read()
     ensures { WrittenAsRead }
 {}

@@ -29,8 +29,7 @@ use Rattle.event_laws.proofs.EventLemmas.{row_in_range}
 use Rattle.script_text.specs.Parts.{before_part, parted_by}
 use Rattle.script_text.specs.Script.{space, words_of}
 use Rattle.line_shapes.specs.Shapes.{line_said}
-use Rattle.line_shapes.proofs.FitLemmas.{line_fit}
-use Rattle.line_shapes.proofs.TableLemmas.{line_within}
+use Rattle.line_shapes.proofs.ReadLemmas.{read_is}
 use Rattle.event_rows.specs.Rows.{event_forms}
 use Rattle.plan_names.proofs.NameLemmas.{place_within}
 use Rattle.event_laws.specs.Law.{IsEventInRange, IsWritable}
@@ -179,9 +178,8 @@ module _ (plan : Plan) (number : ℕ) (text : List ℕ) where
     where
       of_read : (r : Result (ℕ × List ℕ) ℕ) → line_said plan event_forms (words_of text) ≡ r → IfOk (event_by number r) (IsSaidEvent plan)
       of_read (Ok read) is =
-          let within : read.0 < 13 = line_within plan event_forms (words_of text) read is in
-          let fit = line_fit plan event_forms (words_of text) read is in
-          (row_planned plan read.0 read.1 within fit, row_in_range plan read.0 read.1 within fit)
+          let line = read_is plan event_forms (words_of text) read is in
+          (row_planned plan read.0 read.1 line.within line.fit, row_in_range plan read.0 read.1 line.within line.fit)
       of_read (Err word) is = tt
 
   repeats_ok : IfOk (repeats_in number text) IsCount

@@ -15,7 +15,7 @@ use Rattle.line_shapes.specs.Words.{circuit_name}
 use Rattle.event_rows.specs.Rows.{event_words}
 use Rattle.plan_names.specs.Planned.{HasNames}
 use Rattle.event_laws.specs.Law.{IsEventInRange}
-use Rattle.event_laws.proofs.EventLemmas.{event_graphic}
+use Rattle.event_laws.proofs.EventLemmas.{event_graphic, named_of}
 use Rattle.event_laws.proofs.ValueLemmas.{AreGraphic, IsGraphic, decimal_graphic, name_is_graphic, row_graphic}
 use Rattle.script_text.specs.Script.{is_graphic, space, spaced_words}
 use Rattle.text_lines.specs.declared.line_word.LineWord.{LineWord}
@@ -75,7 +75,7 @@ graphic_text words all = words_are_text words (are_texts words all)
 
 -- the text of an event
 pub event_is_text : (plan : Plan) (event : Event) → HasNames plan → IsEventOf plan event → IsEventInRange event → IsUtf8 (spaced_words (event_words plan event))
-event_is_text plan event names of in_ = graphic_text (event_words plan event) (event_graphic plan event names of in_)
+event_is_text plan event names of in_ = graphic_text (event_words plan event) (event_graphic plan event names (named_of plan event of in_))
 
 -- the texts of the other commands
 pub settle_is_text : (count : ℕ) → count < 2 ^ 32 → IsUtf8 (spaced_words (codes "settle" ∷ decimal count ∷ []))

@@ -4,9 +4,6 @@ use Rattle.std.proofs.lemmas.Slice.Eq.{bytes_eq-Decides}
 use Rattle.std.specs.Fmt.{decimal}
 use Rattle.std.specs.Str.{bytes_eq}
 use Rattle.net_base.specs.declared.plan.Plan.{Plan}
-use Rattle.net_base.specs.declared.plan.circuit_plan.CircuitPlan.{CircuitPlan}
-use Rattle.net_base.specs.declared.plan.edge_plan.EdgePlan.{EdgePlan}
-use Rattle.net_base.specs.declared.plan.wire_plan.WirePlan.{WirePlan}
 use Rattle.net_base.specs.declared.plan.places.CircuitId.{CircuitId}
 use Rattle.net_base.specs.declared.plan.places.EdgeId.{EdgeId}
 use Rattle.net_base.specs.declared.plan.places.WireId.{WireId}
@@ -18,8 +15,7 @@ use Rattle.text_pieces.specs.Pieces.{hex}
 use Rattle.text_lines.specs.Lines.{line_of}
 use Rattle.report_text.specs.Report.{entry_line, entry_words}
 use Rattle.line_shapes.specs.Words.{arrival_name, circuit_name, edge_name, wire_name}
-use Rattle.event_rows.specs.Rows.{event_words}
-use Rattle.event_rows.specs.Named.{AreOctetsTold}
+use Rattle.event_rows.specs.Rows.{event_words, event_forms, event_made, AreOctetsTold}
 use Rattle.report_text.specs.Named.{IsEntryNamed}
 use Rattle.report_entries.specs.declared.passed.Carried.{Carried}
 use Rattle.report_entries.specs.declared.passed.Passed.{Passed}
@@ -28,11 +24,12 @@ use Rattle.octet_text.specs.Cut.{before_mark, behind_mark}
 use Rattle.report_entries.specs.Cut.{line_words, words_within}
 use Rattle.report_text.specs.Rows.{entry_forms, entry_made}
 use Rattle.report_entries.specs.Entries.{carried_in, did_in, entered_in, exact, left_in, line_entry, passed_in, row_entry, said_in, sent_in, told_entry_in, told_entry_of, words_entry}
-use Rattle.event_rows.specs.Rows.{event_forms, event_made}
 use Rattle.report_entries.specs.Events.{event_told, frame_told, of_record_size, row_event}
 use Rattle.report_entries.specs.Reading.{◌>>=◌, Reads, arrival_in, circuit_of_word, digits_told, edge_of_word, number_in, wire_of_word}
 use Rattle.line_shapes.specs.Laws.{have_kinds}
-use Rattle.line_shapes.proofs.AgainLemmas.{decimal_again, row_again}
+use Rattle.line_shapes.specs.declared.kind.Kind.TheVariants as kind
+use Rattle.line_shapes.proofs.ReadLemmas.{number_read, value_read}
+use Rattle.plan_names.specs.Decimal.{decimal_from}
 use Rattle.line_shapes.proofs.TableLemmas.{below_all, rows_hold}
 use Rattle.event_rows.proofs.RowLemmas.{EventRow, event_rows}
 use Rattle.report_entries.proofs.RowLemmas.{EntryRow, entry_rows}
@@ -51,7 +48,7 @@ by_text Q word text x y first second = by (bytes_eq word text) refl where
 
 number_again : (word : List ℕ) → IfSome (number_in word) (λ n. decimal n ≡ word)
 unfolding number_in
-number_again word = decimal_again 0 18446744073709551615 word (omega arith)
+number_again word = weaker _ (λ n. decimal n ≡ word) (decimal_from 0 18446744073709551615 word) (λ n said. said.1 (omega arith)) (number_read 0 18446744073709551615 word)
 
 digits_again : (word : List ℕ) → IfSome (digits_told word) (λ o. hex o ≡ word)
 digits_again word = weaker (λ o. AreOctetsTold o × (hex o ≡ word)) (λ o. hex o ≡ word) (digits_told word) (λ o is. is.1) (octets_again word)
@@ -68,15 +65,15 @@ as_wire n = record { 0 = n }
 module _ (plan : Plan) where
   edge_again : (word : List ℕ) → IfSome (edge_of_word (names_of plan) word) (λ a. edge_name plan a ≡ word)
   unfolding edge_of_word as_edge
-  edge_again word = mapped _ (λ a. edge_name plan a ≡ word) as_edge (place_in (names_of plan).edges word) (λ n same. same) (row_again (λ (row : EdgePlan). row.name) plan.edges word)
+  edge_again word = mapped _ (λ a. edge_name plan a ≡ word) as_edge (place_in (names_of plan).edges word) (λ n said. said.1 tt) (value_read plan kind.Edge word)
 
   circuit_again : (word : List ℕ) → IfSome (circuit_of_word (names_of plan) word) (λ a. circuit_name plan a ≡ word)
   unfolding circuit_of_word as_circuit
-  circuit_again word = mapped _ (λ a. circuit_name plan a ≡ word) as_circuit (place_in (names_of plan).circuits word) (λ n same. same) (row_again (λ (row : CircuitPlan). row.name) plan.circuits word)
+  circuit_again word = mapped _ (λ a. circuit_name plan a ≡ word) as_circuit (place_in (names_of plan).circuits word) (λ n said. said.1 tt) (value_read plan kind.Circuit word)
 
   wire_again : (word : List ℕ) → IfSome (wire_of_word (names_of plan) word) (λ a. wire_name plan a ≡ word)
   unfolding wire_of_word as_wire
-  wire_again word = mapped _ (λ a. wire_name plan a ≡ word) as_wire (place_in (names_of plan).wires word) (λ n same. same) (row_again (λ (row : WirePlan). row.name) plan.wires word)
+  wire_again word = mapped _ (λ a. wire_name plan a ≡ word) as_wire (place_in (names_of plan).wires word) (λ n said. said.1 tt) (value_read plan kind.Wire word)
 
   arrival_again : (word : List ℕ) → IfSome (arrival_in (names_of plan) word) (λ a. arrival_name plan a ≡ word)
   unfolding arrival_in

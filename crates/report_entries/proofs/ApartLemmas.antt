@@ -16,7 +16,7 @@ use Rattle.line_shapes.specs.Words.{circuit_name, wire_name}
 use Rattle.plan_names.specs.Planned.{HasNames}
 use Rattle.line_shapes.proofs.NameLemmas.{row_name}
 use Rattle.report_text.specs.Named.{HasNamesApart}
-use Rattle.event_rows.specs.Named.{IsCircuit, IsWire}
+use Rattle.event_rows.specs.Rows.{IsCircuit, IsWire}
 
 -- of two lists one behind the other
 across : (a b : List (List ℕ)) (i j : ℕ) → NonePair bytes_eq (a ++ b) → i < length a → j < length b → bytes_eq (get_or a i []) (get_or b j []) ≡ false

@@ -6,7 +6,7 @@ use Rattle.std.specs.List.{list_all}
 use Rattle.hex.specs.Hex.{encode_with, lower_digits}
 use Rattle.octet_text.specs.Hex.{digit_value, is_small, unhex}
 use Rattle.text_pieces.specs.Pieces.{hex}
-use Rattle.event_rows.specs.Named.{AreOctetsTold}
+use Rattle.event_rows.specs.Rows.{AreOctetsTold}
 use Rattle.report_entries.specs.Reading.{digits_told}
 
 -- the test of the numbers below a bound, which computes

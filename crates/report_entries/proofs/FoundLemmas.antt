@@ -28,7 +28,7 @@ use Rattle.text_lines.specs.Lines.{line_of}
 use Rattle.read_lines.specs.Plain.{HasWords}
 use Rattle.report_text.specs.Report.{entry_line, entry_words}
 use Rattle.line_shapes.specs.Words.{arrival_name, circuit_name, edge_name, name_or_empty, wire_name}
-use Rattle.event_rows.specs.Rows.{event_words}
+use Rattle.event_rows.specs.Rows.{event_words, event_forms, event_made, AreOctetsTold, IsCircuit, IsNamedEdge, IsNamedEvent, IsToldNumber, IsWire}
 use Rattle.plan_names.proofs.BelowLemmas.{all_below, below_at}
 use Rattle.plan_names.proofs.DecimalLemmas.{number_said}
 use Rattle.line_shapes.proofs.NameLemmas.{row_said}
@@ -36,14 +36,12 @@ use Rattle.event_laws.proofs.ValueLemmas.{octets_read}
 use Rattle.line_shapes.specs.Laws.{have_kinds, have_words}
 use Rattle.line_shapes.specs.Shapes.{form_at, row_words}
 use Rattle.line_shapes.proofs.TableLemmas.{IsRow, row_read}
-use Rattle.event_rows.specs.Named.{AreOctetsTold, IsCircuit, IsNamedEdge, IsNamedEvent, IsToldNumber, IsWire}
 use Rattle.report_text.specs.Named.{HasNamesApart, IsArrival, IsEntryNamed}
 use Rattle.report_entries.proofs.ApartLemmas.{names_apart}
 use Rattle.report_entries.proofs.PlainLemmas.{entry_plain}
 use Rattle.report_entries.specs.Cut.{line_words, words_within}
 use Rattle.report_text.specs.Rows.{entry_forms, entry_made}
 use Rattle.report_entries.specs.Entries.{carried_in, entered_in, left_in, line_entry, passed_in, row_entry, said_in, sent_in, told_entry_in, told_entry_of, words_entry}
-use Rattle.event_rows.specs.Rows.{event_forms, event_made}
 use Rattle.report_entries.specs.Events.{event_told, frame_told, row_event}
 use Rattle.report_entries.proofs.CutLemmas.{joined_free, line_is, words_found}
 use Rattle.report_entries.proofs.DigitLemmas.{digits_small}

@@ -12,7 +12,7 @@ use Rattle.plan_names.specs.Planned.{names_of}
 use Rattle.plan_names.specs.Decimal.{decimal_from, is_decimal, value_from}
 use Rattle.text_pieces.specs.Pieces.{hex}
 use Rattle.report_text.specs.Report.{entry_line}
-use Rattle.event_rows.specs.Named.{AreOctetsTold, IsCircuit, IsNamedEdge, IsNamedEvent, IsToldNumber, IsWire, IsFromTo}
+use Rattle.event_rows.specs.Rows.{event_forms, event_made, AreOctetsTold, IsCircuit, IsNamedEdge, IsNamedEvent, IsToldNumber, IsWire, IsFromTo}
 use Rattle.report_text.specs.Named.{IsArrival, IsEntryNamed}
 use Rattle.report_entries.specs.declared.passed.Carried.{Carried}
 use Rattle.report_entries.specs.declared.passed.Passed.{Passed}
@@ -20,7 +20,6 @@ use Rattle.report_entries.specs.declared.unread.Unread.{Unread}
 use Rattle.report_entries.specs.Cut.{line_words}
 use Rattle.report_text.specs.Rows.{entry_forms, entry_made}
 use Rattle.report_entries.specs.Entries.{carried_in, did_in, entered_in, exact, left_in, line_entry, passed_in, row_entry, said_in, sent_in, told_entry_in, told_entry_of, words_entry}
-use Rattle.event_rows.specs.Rows.{event_forms, event_made}
 use Rattle.report_entries.specs.Events.{event_told, frame_told, of_record_size, row_event}
 use Rattle.line_shapes.specs.Laws.{have_kinds}
 use Rattle.line_shapes.proofs.TableLemmas.{below_all, rows_hold}

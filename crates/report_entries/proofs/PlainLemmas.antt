@@ -30,7 +30,7 @@ use Rattle.report_text.specs.Report.{entry_words, last_words}
 use Rattle.report_text.proofs.CountLemmas.{counts_within}
 use Rattle.report_text.specs.Read.{IsEnding}
 use Rattle.line_shapes.specs.Words.{arrival_name, circuit_name, edge_name, name_or_empty, wire_name}
-use Rattle.event_rows.specs.Rows.{event_words}
+use Rattle.event_rows.specs.Rows.{event_words, event_forms, event_made, AreOctetsTold, IsCircuit, IsNamedEdge, IsNamedEvent, IsToldNumber, IsWire}
 use Rattle.plan_names.specs.Planned.{AreNames, HasNames}
 use Rattle.line_shapes.specs.Laws.{AreKinds, IsKind, have_kinds}
 use Rattle.line_shapes.specs.Shapes.{AreValuesOf, Form, IsFit, first_value, form_at, value_word, value_words, values_behind}
@@ -38,7 +38,6 @@ use Rattle.line_shapes.specs.declared.kind.Kind.{Kind}
 use Rattle.line_shapes.specs.declared.kind.Kind.TheVariants as kind
 use Rattle.line_shapes.proofs.TableLemmas.{IsRow, are_kinds}
 use Rattle.report_text.specs.Rows.{entry_forms, entry_made}
-use Rattle.event_rows.specs.Rows.{event_forms, event_made}
 use Rattle.event_rows.proofs.RowLemmas.{event_row}
 use Rattle.report_entries.proofs.RowLemmas.{aged_told, copied_told, down_told, dropped_told, idle_told, pong_told, session_told}
 use Rattle.plan_names.proofs.BelowLemmas.{all_below, below_at}
@@ -48,7 +47,6 @@ use Rattle.line_shapes.specs.Choices.{choice_word, choice_words}
 use Rattle.line_shapes.specs.declared.choice.Choice.{Choice}
 use Rattle.line_shapes.specs.declared.choice.Choice.TheVariants as choice
 use Rattle.read_lines.specs.Plain.{HasWords, IsPlain, IsPlainLine, is_plain}
-use Rattle.event_rows.specs.Named.{AreOctetsTold, IsCircuit, IsNamedEdge, IsNamedEvent, IsToldNumber, IsWire}
 use Rattle.report_text.specs.Named.{IsArrival, IsEntryNamed}
 
 plain_by : (test : ℕ → Bool) → ((c : ℕ) → test c ≡ true → is_plain c ≡ true) → (word : List ℕ) → list_all test word ≡ true → IsPlain word

@@ -16,7 +16,7 @@ use Rattle.plan_names.proofs.BelowLemmas.{all_below}
 use Rattle.line_shapes.specs.Choices.{cause_at, cause_place, choice_word, wire_end_at, wire_end_place, state_at, state_place}
 use Rattle.line_shapes.specs.declared.choice.Choice.TheVariants as choice
 use Rattle.report_text.specs.Named.{IsEntryNamed}
-use Rattle.event_rows.specs.Named.{IsFromTo, IsNamedEdge, IsToldNumber, IsWire}
+use Rattle.event_rows.specs.Rows.{IsFromTo, IsNamedEdge, IsToldNumber, IsWire}
 use Rattle.report_text.specs.Report.{entry_words}
 use Rattle.line_shapes.specs.Shapes.{AreValuesOf, form_at, row_words, nth_value, value_word}
 use Rattle.line_shapes.specs.declared.kind.Kind.{Kind}

@@ -15,7 +15,7 @@ use Rattle.report_text.specs.Report.{counts_told, entry_lines, last_line, last_w
 use Rattle.plan_names.specs.Planned.{HasNames}
 use Rattle.plan_names.proofs.DecimalLemmas.{number_said}
 use Rattle.read_lines.specs.Plain.{HasWords}
-use Rattle.event_rows.specs.Named.{IsToldNumber}
+use Rattle.event_rows.specs.Rows.{IsToldNumber}
 use Rattle.report_text.specs.Read.{IsEnding, ReadReport}
 use Rattle.report_entries.proofs.PlainLemmas.{last_plain}
 use Rattle.report_entries.specs.declared.tally.Tally.{Tally}

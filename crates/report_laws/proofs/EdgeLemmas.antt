@@ -37,7 +37,7 @@ use Rattle.flight_laws.specs.Pair.{StandsIf}
 use Rattle.provider_edge.proofs.EffectLemmas.{AreKept, HasPeers, fit_kept, step_kept}
 use Rattle.provider_edge.specs.Said.{AllFit}
 use Rattle.report_text.specs.Named.{IsArrival}
-use Rattle.event_rows.specs.Named.{IsCircuit, IsNamedEdge}
+use Rattle.event_rows.specs.Rows.{IsCircuit, IsNamedEdge}
 use Rattle.report_laws.specs.Places.{IsEntryOf}
 
 -- ---- peers are edges of the plan

@@ -46,7 +46,7 @@ use Rattle.flight_laws.proofs.PlanLemmas.{both_in}
 use Rattle.packet_laws.specs.Carried.{FollowsPacketRule, KeepsPacketRule}
 use Rattle.provider_edge.specs.Said.{AllFit}
 use Rattle.provider_edge.proofs.EffectLemmas.{HasPeers}
-use Rattle.event_rows.specs.Named.{IsCircuit, IsNamedEdge}
+use Rattle.event_rows.specs.Rows.{IsCircuit, IsNamedEdge}
 use Rattle.report_laws.specs.Places.{IsEntryOf}
 use Rattle.report_laws.proofs.EdgeLemmas.{AllHaveCome, FitsAll, begins_fit, circuit_fits, connected_fits, effects_told, frame_comes, frame_fits, lost_fits, octets_fit, packet_comes, packet_fits, peers_in, ping_comes, ping_fits, priority_fits, signals_come, status_fits, tick_fits, wire_fits}
 

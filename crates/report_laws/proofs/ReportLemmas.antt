@@ -14,7 +14,7 @@ use Rattle.network_model.specs.State.{NetworkState, empty_network}
 use Rattle.network_model.specs.Step.{brings, step}
 use Rattle.seen_laws.proofs.SplitLemmas.{NoEvent, brings_quiet}
 use Rattle.report_text.specs.declared.ending.Ending.{Ending}
-use Rattle.event_rows.specs.Named.{AreOctetsTold, IsNamedEvent}
+use Rattle.event_rows.specs.Rows.{AreOctetsTold, IsNamedEvent}
 use Rattle.report_text.specs.Named.{IsEntryNamed}
 use Rattle.report_text.specs.Read.{IsReported}
 use Rattle.report_laws.specs.Laws.{IsTypedTrace, RunsAreReported}

@@ -9,7 +9,7 @@ use Rattle.net_base.specs.plan.Planned.{IsEventOf}
 use Rattle.command_text.specs.declared.command.Command.{Command}
 use Rattle.command_text.specs.declared.command.Command.TheVariants as command
 use Rattle.report_text.specs.Named.{IsArrival}
-use Rattle.event_rows.specs.Named.{IsCircuit, IsNamedEdge, IsWire}
+use Rattle.event_rows.specs.Rows.{IsCircuit, IsNamedEdge, IsWire}
 
 -- the entry speaks of rows of the plan
 abbrev pub IsEntryOf : Plan → Entry → Type 0

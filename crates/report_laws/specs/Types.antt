@@ -5,7 +5,7 @@ use Rattle.net_base.specs.declared.trace.entry.Entry.{Entry}
 use Rattle.net_base.specs.declared.trace.entry.Entry.TheVariants as entry
 use Rattle.net_base.specs.declared.trace.event.Event.{Event}
 use Rattle.net_base.specs.declared.trace.event.Event.TheVariants as event
-use Rattle.event_rows.specs.Named.{IsToldNumber}
+use Rattle.event_rows.specs.Rows.{IsToldNumber}
 
 -- octets are octets
 abbrev pub AreTypedOctets : List ℕ → Type 0

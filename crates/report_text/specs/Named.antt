@@ -8,7 +8,7 @@ use Rattle.net_base.specs.declared.trace.arrival.Arrival.TheVariants as arrival
 use Rattle.net_base.specs.declared.trace.entry.Entry.{Entry}
 use Rattle.net_base.specs.declared.trace.entry.Entry.TheVariants as entry
 use Rattle.line_shapes.specs.Words.{circuit_name, wire_name}
-use Rattle.event_rows.specs.Named.{AreOctetsTold, IsCircuit, IsFromTo, IsNamedEdge, IsNamedEvent, IsToldNumber, IsWire}
+use Rattle.event_rows.specs.Rows.{AreOctetsTold, IsCircuit, IsFromTo, IsNamedEdge, IsNamedEvent, IsToldNumber, IsWire}
 
 -- what came by a circuit or a wire of the plan, or by none
 abbrev pub IsArrival : Plan → Arrival → Type 0

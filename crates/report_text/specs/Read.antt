@@ -6,7 +6,7 @@ use Rattle.net_base.specs.declared.trace.entry.Entry.{Entry}
 use Rattle.report_text.specs.declared.ending.Ending.{Ending}
 use Rattle.report_text.specs.declared.ending.Ending.TheVariants.{End, Crowded, TooMuch}
 use Rattle.report_text.specs.Report.{report}
-use Rattle.event_rows.specs.Named.{IsToldNumber}
+use Rattle.event_rows.specs.Rows.{IsToldNumber}
 use Rattle.report_text.specs.Named.{IsEntryNamed}
 
 -- a report ends by all events, or by a number at which the run stopped

@@ -5,7 +5,7 @@ use Rattle.net_base.specs.declared.trace.entry.Entry.TheVariants as entry
 use Rattle.net_base.specs.declared.trace.event.Event.{Event}
 use Rattle.net_base.specs.declared.trace.event.Event.TheVariants as event
 use Rattle.report_text.specs.Named.{IsEntryNamed}
-use Rattle.event_rows.specs.Named.{IsNamedEvent}
+use Rattle.event_rows.specs.Rows.{IsNamedEvent}
 use Rattle.seen_state.specs.Placed.{IsEventWithin, IsPlaced}
 use Rattle.seen_state.specs.SeenEdges.{sizes_of}
 

@@ -1,7 +1,7 @@
 -- What is read fits its row.
 use Rattle.std.proofs.Common.{map}
 use Rattle.line_shapes.specs.Shapes.{form_of}
-use Rattle.line_shapes.proofs.FitLemmas.{fit_result}
+use Rattle.line_shapes.proofs.ReadLemmas.{fit_result}
 use Rattle.line_shapes.proofs.reader.read_shaped.Goals as goal
 
 pub returns-clause-fit : goal.returns-clause-fit
