@@ -1,6 +1,7 @@
 -- The keys that a table of the document may have.
 use Rattle.std.specs.Prelude.{◌||◌, not, codes, ℕ, Bool, true, false, List, [], ◌∷◌, Result, Ok, Err, Option, Some, None, if◌then◌else◌}
 use Rattle.std.specs.Cmp.Lexicographic.{slice_cmp}
+use Rattle.std.specs.List.{list_any}
 use Rattle.std.specs.Ordering.{nat_cmp, is_le}
 use Rattle.std.specs.Str.{bytes_eq}
 use Rattle.toml.specs.Data.{Members, no_members, member}
@@ -13,42 +14,37 @@ use Rattle.command_text.specs.Places.{place_of_key}
 use Rattle.scenario_text.specs.declared.document_version.DocumentVersion.{DocumentVersion}
 use Rattle.scenario_text.specs.declared.document_version.DocumentVersion.TheVariants.{One, Two}
 
--- the keys of the top in both versions
-abbrev pub is_top_key : List ℕ → Bool
-is_top_key key =
-    ((((bytes_eq key (codes "version") || bytes_eq key (codes "events")) || bytes_eq key (codes "edge")) || bytes_eq key (codes "service")) || bytes_eq key (codes "circuit"))
-    || bytes_eq key (codes "wire")
-
-abbrev pub is_edge_key : List ℕ → Bool
-is_edge_key key =
-    (((bytes_eq key (codes "name") || bytes_eq key (codes "address")) || bytes_eq key (codes "first_label")) || bytes_eq key (codes "keepalive")) || bytes_eq key (codes "max_pdu")
-
-abbrev pub is_service_key : List ℕ → Bool
-is_service_key key = (bytes_eq key (codes "name") || bytes_eq key (codes "mtu")) || bytes_eq key (codes "age")
-
-abbrev pub is_group_key : List ℕ → Bool
-is_group_key key = bytes_eq key (codes "name") || bytes_eq key (codes "number")
-
-abbrev pub is_circuit_key : List ℕ → Bool
-is_circuit_key key = ((bytes_eq key (codes "name") || bytes_eq key (codes "edge")) || bytes_eq key (codes "service")) || bytes_eq key (codes "tag")
-
--- the keys of a wire as a whole
-abbrev pub is_wire_key : List ℕ → Bool
-is_wire_key key =
-    ((((bytes_eq key (codes "name") || bytes_eq key (codes "service")) || bytes_eq key (codes "class")) || bytes_eq key (codes "path")) || bytes_eq key (codes "pw_id"))
-    || bytes_eq key (codes "priority")
-
 -- the keys of what an end of a wire offers
-abbrev pub is_offer_key : List ℕ → Bool
-is_offer_key key =
-    ((((((bytes_eq key (codes "mode") || bytes_eq key (codes "control_word")) || bytes_eq key (codes "mtu")) || bytes_eq key (codes "vlan")) || bytes_eq key (codes "vccv"))
-    || bytes_eq key (codes "status")) || bytes_eq key (codes "group")) || bytes_eq key (codes "description")
+abbrev pub offer_keys : List (List ℕ)
+offer_keys =
+    codes "mode" ∷ codes "control_word" ∷ codes "mtu" ∷ codes "vlan" ∷ codes "vccv"
+    ∷ codes "status" ∷ codes "group" ∷ codes "description" ∷ []
 
 -- the same for the far end alone
-abbrev pub is_far_key : List ℕ → Bool
-is_far_key key =
-    ((((((bytes_eq key (codes "far_mode") || bytes_eq key (codes "far_control_word")) || bytes_eq key (codes "far_mtu")) || bytes_eq key (codes "far_vlan")) || bytes_eq key (codes "far_vccv"))
-    || bytes_eq key (codes "far_status")) || bytes_eq key (codes "far_group")) || bytes_eq key (codes "far_description")
+abbrev pub far_keys : List (List ℕ)
+far_keys =
+    codes "far_mode" ∷ codes "far_control_word" ∷ codes "far_mtu" ∷ codes "far_vlan" ∷ codes "far_vccv"
+    ∷ codes "far_status" ∷ codes "far_group" ∷ codes "far_description" ∷ []
+
+-- the keys of a row of this table in both versions: those of a wire as a whole, and those of what an end of one offers
+abbrev pub table_keys : Table → List (List ℕ)
+table_keys Top = codes "version" ∷ codes "events" ∷ codes "edge" ∷ codes "service" ∷ codes "circuit" ∷ codes "wire" ∷ []
+table_keys Events = []
+table_keys Edge = codes "name" ∷ codes "address" ∷ codes "first_label" ∷ codes "keepalive" ∷ codes "max_pdu" ∷ []
+table_keys Service = codes "name" ∷ codes "mtu" ∷ codes "age" ∷ []
+table_keys Group = codes "name" ∷ codes "number" ∷ []
+table_keys Circuit = codes "name" ∷ codes "edge" ∷ codes "service" ∷ codes "tag" ∷ []
+table_keys Wire = codes "name" ∷ codes "service" ∷ codes "class" ∷ codes "path" ∷ codes "pw_id" ∷ codes "priority" ∷ []
+table_keys Near = offer_keys
+table_keys Far = offer_keys
+
+-- the key is one of these
+abbrev pub is_among : List (List ℕ) → List ℕ → Bool
+is_among keys key = list_any (bytes_eq key) keys
+
+-- the key is one of what an end of a wire offers
+abbrev pub is_offer_key : List ℕ → Bool
+is_offer_key key = is_among offer_keys key
 
 -- the key of the groups, which version 2 alone has
 abbrev pub is_groups_key : DocumentVersion → List ℕ → Bool
@@ -57,18 +53,18 @@ is_groups_key Two key = bytes_eq key (codes "group")
 
 -- what the ends of a wire offer: by keys of the wire in version 1, and by two tables of their own in version 2
 abbrev pub is_ends_key : DocumentVersion → List ℕ → Bool
-is_ends_key One key = is_offer_key key || is_far_key key
+is_ends_key One key = is_offer_key key || is_among far_keys key
 is_ends_key Two key = bytes_eq key (codes "near") || bytes_eq key (codes "far")
 
 -- a row of this table may have the key
 abbrev pub is_known_key : DocumentVersion → Table → List ℕ → Bool
-is_known_key version Top key = is_top_key key || is_groups_key version key
-is_known_key version Events key = false
-is_known_key version Edge key = is_edge_key key
-is_known_key version Service key = is_service_key key
-is_known_key version Group key = is_group_key key
-is_known_key version Circuit key = is_circuit_key key
-is_known_key version Wire key = is_wire_key key || is_ends_key version key
+is_known_key version Top key = is_among (table_keys Top) key || is_groups_key version key
+is_known_key version Events key = is_among (table_keys Events) key
+is_known_key version Edge key = is_among (table_keys Edge) key
+is_known_key version Service key = is_among (table_keys Service) key
+is_known_key version Group key = is_among (table_keys Group) key
+is_known_key version Circuit key = is_among (table_keys Circuit) key
+is_known_key version Wire key = is_among (table_keys Wire) key || is_ends_key version key
 is_known_key version Near key = is_offer_key key
 is_known_key version Far key = is_offer_key key
 

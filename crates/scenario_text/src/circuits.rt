@@ -5,6 +5,7 @@ ghost use Rattle.scenario_text.specs.{References.{circuit_in, circuit_plans}, To
 
 use crate::circuit_row::CircuitRow;
 use crate::named::named_place;
+use crate::rows::row_place;
 use command_text::{RowPlace, ScenarioFault};
 use net_base::{CircuitPlan, EdgeId, List, ServiceId, Table as TableKind};
 use plan_names::NameIndex;
@@ -46,10 +47,7 @@ pub fn circuits(
 {
     let mut circuits = List::new(alloc);
     for (i, row) in rows.iter().enumerate() {
-        let place = RowPlace {
-            table: TableKind::Circuit,
-            index: i as u32 + 1,
-        };
+        let place = row_place(TableKind::Circuit, i);
         let circuit = circuit(edges, services, place, row)?;
         circuits.push(circuit)?;
     }

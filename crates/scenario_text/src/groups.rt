@@ -4,7 +4,8 @@ ghost use Rattle.command_text.specs.Reading.{MapsTo};
 ghost use Rattle.scenario_text.specs.{References.{group_names, groups_differ}, Top.{most_groups}};
 
 use crate::group_rows::GroupRows;
-use command_text::{RowPlace, ScenarioFault};
+use crate::rows::row_place;
+use command_text::ScenarioFault;
 use net_base::Table as TableKind;
 
 /// Refuses the first group that has the name of an earlier one.
@@ -14,13 +15,7 @@ pub fn check_groups(groups: GroupRows<'_, '_>) -> Result<(), ScenarioFault>
     ensures { MapsTo (λ _. true) result (groups_differ groups.entry.rows.now) }
 {
     match groups.index.first_repeat() {
-        Some(row) => {
-            let place = RowPlace {
-                table: TableKind::Group,
-                index: row as u32 + 1,
-            };
-            Err(place.repeated_name("name"))
-        }
+        Some(row) => Err(row_place(TableKind::Group, row).repeated_name("name")),
         None => Ok(()),
     }
 }

@@ -1,92 +1,66 @@
 //! The keys that a table of the document may have.
-ghost use Rattle.std.specs.{Prelude.{◌≡◌, not, true, option_map, string_bytes, string_cmp}, List.{find}, List.Sorted.{IsStrictlySortedBy}};
+ghost use Rattle.std.specs.{Prelude.{◌≡◌, not, true, map, option_map, string_bytes, string_cmp}, List.{find}, List.Sorted.{IsStrictlySortedBy}};
 ghost use Rattle.std.specs.Map.{keys_of};
 ghost use Rattle.toml.specs.View.{table_view};
 ghost use Rattle.command_text.specs.Reading.{MapsTo};
-ghost use Rattle.scenario_text.specs.Keys.{is_top_key, is_edge_key, is_service_key, is_group_key, is_circuit_key, is_wire_key, is_offer_key, is_far_key, is_groups_key, is_ends_key, is_known_key, unknown_key, only_known};
+ghost use Rattle.scenario_text.specs.Keys.{far_keys, is_among, is_ends_key, is_groups_key, is_known_key, only_known, table_keys, unknown_key};
 
 use crate::document_version::DocumentVersion;
 use command_text::{RowPlace, ScenarioFault, is_same};
 use net_base::Table as TableKind;
 use toml::Table;
 
-fn is_top(key: &str) -> bool
-    ensures { result ≡ is_top_key key.now }
+// The keys of a row of a table in both versions: those of a wire as a whole, and those of what an end of one offers.
+fn keys_of(table: TableKind) -> &'static [&'static str]
+    ensures { map (λ k. k.now) result.now ≡ table_keys table }
 {
-    is_same(key, "version")
-        || is_same(key, "events")
-        || is_same(key, "edge")
-        || is_same(key, "service")
-        || is_same(key, "circuit")
-        || is_same(key, "wire")
+    match table {
+        TableKind::Top => &["version", "events", "edge", "service", "circuit", "wire"],
+        TableKind::Events => &[],
+        TableKind::Edge => &["name", "address", "first_label", "keepalive", "max_pdu"],
+        TableKind::Service => &["name", "mtu", "age"],
+        TableKind::Group => &["name", "number"],
+        TableKind::Circuit => &["name", "edge", "service", "tag"],
+        TableKind::Wire => &["name", "service", "class", "path", "pw_id", "priority"],
+        TableKind::Near | TableKind::Far => &[
+            "mode",
+            "control_word",
+            "mtu",
+            "vlan",
+            "vccv",
+            "status",
+            "group",
+            "description",
+        ],
+    }
 }
 
-fn is_edge(key: &str) -> bool
-    ensures { result ≡ is_edge_key key.now }
+// The keys of what the far end alone offers.
+fn far_keys() -> &'static [&'static str]
+    ensures { map (λ k. k.now) result.now ≡ far_keys }
 {
-    is_same(key, "name")
-        || is_same(key, "address")
-        || is_same(key, "first_label")
-        || is_same(key, "keepalive")
-        || is_same(key, "max_pdu")
+    &[
+        "far_mode",
+        "far_control_word",
+        "far_mtu",
+        "far_vlan",
+        "far_vccv",
+        "far_status",
+        "far_group",
+        "far_description",
+    ]
 }
 
-fn is_service(key: &str) -> bool
-    ensures { result ≡ is_service_key key.now }
+// Whether this is one of these keys.
+fn is_among(keys: &[&str], key: &str) -> bool
+    ensures { result ≡ is_among (map (λ k. k.now) keys.now) key.now }
 {
-    is_same(key, "name") || is_same(key, "mtu") || is_same(key, "age")
-}
-
-fn is_group(key: &str) -> bool
-    ensures { result ≡ is_group_key key.now }
-{
-    is_same(key, "name") || is_same(key, "number")
-}
-
-fn is_circuit(key: &str) -> bool
-    ensures { result ≡ is_circuit_key key.now }
-{
-    is_same(key, "name") || is_same(key, "edge") || is_same(key, "service") || is_same(key, "tag")
-}
-
-// Whether this is a key of a wire as a whole.
-fn is_wire(key: &str) -> bool
-    ensures { result ≡ is_wire_key key.now }
-{
-    is_same(key, "name")
-        || is_same(key, "service")
-        || is_same(key, "class")
-        || is_same(key, "path")
-        || is_same(key, "pw_id")
-        || is_same(key, "priority")
-}
-
-// Whether this is a key of what an end of a wire offers.
-fn is_offer(key: &str) -> bool
-    ensures { result ≡ is_offer_key key.now }
-{
-    is_same(key, "mode")
-        || is_same(key, "control_word")
-        || is_same(key, "mtu")
-        || is_same(key, "vlan")
-        || is_same(key, "vccv")
-        || is_same(key, "status")
-        || is_same(key, "group")
-        || is_same(key, "description")
-}
-
-// Whether this is a key of what the far end alone offers.
-fn is_far(key: &str) -> bool
-    ensures { result ≡ is_far_key key.now }
-{
-    is_same(key, "far_mode")
-        || is_same(key, "far_control_word")
-        || is_same(key, "far_mtu")
-        || is_same(key, "far_vlan")
-        || is_same(key, "far_vccv")
-        || is_same(key, "far_status")
-        || is_same(key, "far_group")
-        || is_same(key, "far_description")
+    for other in keys {
+        if is_same(key, other) {
+            return true;
+        }
+    }
+    false
 }
 
 // Whether this is the key of the groups, which version 2 alone has.
@@ -104,7 +78,9 @@ fn is_ends(version: DocumentVersion, key: &str) -> bool
     ensures { result ≡ is_ends_key version key.now }
 {
     match version {
-        DocumentVersion::One => is_offer(key) || is_far(key),
+        DocumentVersion::One => {
+            is_among(keys_of(TableKind::Near), key) || is_among(far_keys(), key)
+        }
         DocumentVersion::Two => is_same(key, "near") || is_same(key, "far"),
     }
 }
@@ -114,14 +90,15 @@ fn is_known(version: DocumentVersion, table: TableKind, key: &str) -> bool
     ensures { result ≡ is_known_key version table key.now }
 {
     match table {
-        TableKind::Top => is_top(key) || is_groups(version, key),
-        TableKind::Events => false,
-        TableKind::Edge => is_edge(key),
-        TableKind::Service => is_service(key),
-        TableKind::Group => is_group(key),
-        TableKind::Circuit => is_circuit(key),
-        TableKind::Wire => is_wire(key) || is_ends(version, key),
-        TableKind::Near | TableKind::Far => is_offer(key),
+        TableKind::Top => is_among(keys_of(table), key) || is_groups(version, key),
+        TableKind::Wire => is_among(keys_of(table), key) || is_ends(version, key),
+        TableKind::Events
+        | TableKind::Edge
+        | TableKind::Service
+        | TableKind::Group
+        | TableKind::Circuit
+        | TableKind::Near
+        | TableKind::Far => is_among(keys_of(table), key),
     }
 }
 

@@ -1,7 +1,7 @@
 //! What the ends of a wire offer.
 ghost use Rattle.std.specs.Prelude.{◌≡◌, option_map, IfOk};
 ghost use Rattle.toml.specs.View.{table_view};
-ghost use Rattle.scenario_text.specs.Rows.{near_in, far_in, ends_by_keys, offer_table_in, end_or, ends_by_tables, ends_in, plain_offer};
+ghost use Rattle.scenario_text.specs.Rows.{near_in, far_in, ends_by_keys, end_or, ends_by_tables, ends_in, plain_offer};
 ghost use Rattle.scenario_text.specs.Offers.{HasRanges};
 
 use crate::document_version::DocumentVersion;
@@ -88,11 +88,19 @@ fn ends_of_keys(row: TableRow<'_>) -> Result<EndRows, ScenarioFault>
     }
 }
 
-// What an end offers by a table of its own, at the wire's index.
+// What an end offers by its table, at the wire's index, and without it another offer.
 #[tactic(auto, unfolding(crate::specs::Rows::offer_table_in))]
-fn end_of_table(kind: TableKind, index: u32, table: &Table) -> Result<OfferRow, ScenarioFault>
-    ensures { result ≡ offer_table_in kind index (table_view table.now) }
+fn end_of(
+    other: &OfferRow,
+    kind: TableKind,
+    index: u32,
+    table: Option<&Table>,
+) -> Result<OfferRow, ScenarioFault>
+    ensures { result ≡ end_or other.now kind index (option_map (λ t. table_view t.now) table.entry) }
 {
+    let Some(table) = table else {
+        return Ok(*other);
+    };
     let row = TableRow {
         version: DocumentVersion::Two,
         place: RowPlace { table: kind, index },
@@ -102,21 +110,6 @@ fn end_of_table(kind: TableKind, index: u32, table: &Table) -> Result<OfferRow, 
     match only_known_keys(DocumentVersion::Two, kind, row.place, table) {
         Ok(()) => Ok(offer),
         Err(fault) => Err(fault),
-    }
-}
-
-// What an end offers by its table, and without it another offer.
-fn end_of(
-    other: &OfferRow,
-    kind: TableKind,
-    index: u32,
-    table: Option<&Table>,
-) -> Result<OfferRow, ScenarioFault>
-    ensures { result ≡ end_or other.now kind index (option_map (λ t. table_view t.now) table.entry) }
-{
-    match table {
-        Some(table) => end_of_table(kind, index, table),
-        None => Ok(*other),
     }
 }
 

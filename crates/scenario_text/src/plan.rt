@@ -3,7 +3,7 @@ ghost use Rattle.std.specs.Prelude.{◌≡◌, ◌≤◌, length, IfOk};
 ghost use Rattle.net_base.specs.{plan.Accepted.{IsWithinLimits, IsChecked, plan_names}, plan.NameFaults.{edge_names, service_names}};
 ghost use Rattle.plan_names.specs.Names.{are_distinct};
 ghost use Rattle.command_text.specs.Reading.{Gives};
-ghost use Rattle.scenario_text.specs.References.{group_names, passed, sound, sound_with, placed_rows, plan_of};
+ghost use Rattle.scenario_text.specs.References.{group_names, passed, sound_with, placed_rows, plan_of};
 ghost use Rattle.scenario_text.specs.Top.{most_edges, most_services, most_groups, most_circuits, most_wires};
 
 use crate::circuits::circuits;
@@ -37,12 +37,16 @@ fn have_distinct_names(alloc: Global, plan: &Plan) -> Result<bool, NoMemory>
     }
 }
 
-// Refuses a plan that has a fault. Names are compared with each other only where one stands twice.
-fn check(alloc: Global, plan: &Plan) -> Result<(), ScenarioFault>
-    requires { IsWithinLimits plan.now }
-    ensures exact { Gives (passed plan.now result) (sound plan.now) }
+// Refuses a plan over groups of which one has the name of an earlier one, and a plan that has a fault. Names are compared with each
+// other only where one stands twice.
+fn check(alloc: Global, groups: GroupRows<'_, '_>, plan: &Plan) -> Result<(), ScenarioFault>
+    requires named { groups.index.now ≡ group_names groups.rows.now }
+    requires few_groups { length groups.rows.now ≤ most_groups }
+    requires limits { IsWithinLimits plan.now }
+    ensures exact { Gives (passed plan.now result) (sound_with groups.entry.rows.now plan.now) }
     ensures checked { IfOk result (λ _. IsChecked plan.now) }
 {
+    check_groups(groups)?;
     let checked = if have_distinct_names(alloc, plan)? {
         plan.check_distinct()
     } else {
@@ -125,20 +129,6 @@ fn rows_over(
     }
 }
 
-// Refuses a plan over groups of which one has the name of an earlier one, and a plan that has a fault.
-fn check_with(alloc: Global, groups: GroupRows<'_, '_>, plan: &Plan) -> Result<(), ScenarioFault>
-    requires named { groups.index.now ≡ group_names groups.rows.now }
-    requires few_groups { length groups.rows.now ≤ most_groups }
-    requires limits { IsWithinLimits plan.now }
-    ensures exact { Gives (passed plan.now result) (sound_with groups.entry.rows.now plan.now) }
-    ensures checked { IfOk result (λ _. IsChecked plan.now) }
-{
-    match check_groups(groups) {
-        Ok(()) => check(alloc, plan),
-        Err(fault) => Err(fault),
-    }
-}
-
 // The plan of these rows, where groups are found by their index.
 #[tactic(auto, unfolding(crate::specs::References::plan_of))]
 fn plan_over(
@@ -165,7 +155,7 @@ fn plan_over(
                 circuits: placed.circuits,
                 wires: placed.wires,
             };
-            match check_with(alloc, groups, &plan) {
+            match check(alloc, groups, &plan) {
                 Ok(()) => Ok(plan),
                 Err(fault) => Err(fault),
             }

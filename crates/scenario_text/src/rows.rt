@@ -1,5 +1,5 @@
 //! Rows of the document's tables.
-ghost use Rattle.std.specs.Prelude.{◌≡◌, ◌≤◌, length, IfOk};
+ghost use Rattle.std.specs.Prelude.{◌≡◌, ◌<◌, ◌≤◌, ◌+◌, length, IfOk};
 ghost use Rattle.toml.specs.View.{view, items_view};
 ghost use Rattle.command_text.specs.Reading.{Gives};
 ghost use Rattle.scenario_text.specs.{Rows.{row_in, rows_in}, Top.{most_groups}};
@@ -11,6 +11,17 @@ use command_text::{RowPlace, ScenarioFault};
 use net_base::{List, Table as TableKind};
 use std::alloc::Global;
 use toml::Value;
+
+/// The place of a row of a table, which is counted from 0 here and from 1 there.
+pub fn row_place(table: TableKind, row: usize) -> RowPlace
+    requires { row < 100000 }
+    ensures { result ≡ record { table = table; index = row + 1 } }
+{
+    RowPlace {
+        table,
+        index: row as u32 + 1,
+    }
+}
 
 // The row that a value is.
 fn row_at<T: Row>(
@@ -47,11 +58,7 @@ pub fn rows<T: Row>(
 {
     let mut rows = List::new(alloc);
     for (i, value) in array.iter().enumerate() {
-        let place = RowPlace {
-            table,
-            index: i as u32 + 1,
-        };
-        let row = row_at::<T>(alloc, version, place, value)?;
+        let row = row_at::<T>(alloc, version, row_place(table, i), value)?;
         rows.push(row)?;
     }
     Ok(rows)

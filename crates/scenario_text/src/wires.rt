@@ -3,29 +3,19 @@ ghost use Rattle.std.specs.Prelude.{◌≡◌, ◌≤◌, length, IfOk};
 ghost use Rattle.net_base.specs.plan.NameFaults.{service_names};
 ghost use Rattle.command_text.specs.Reading.{Gives};
 ghost use Rattle.scenario_text.specs.Top.{most_wires};
-ghost use Rattle.scenario_text.specs.References.{offer_from, mtu_at, number_at, group_names, group_in, path_in, wire_in, wires_in};
+ghost use Rattle.scenario_text.specs.References.{offer_from, mtu_at, group_names, group_in, path_in, wire_in, wires_in};
 
-use crate::group_row::GroupRow;
 use crate::group_rows::GroupRows;
 use crate::group_use::GroupUse;
 use crate::named::named_place;
 use crate::offer_row::OfferRow;
+use crate::rows::row_place;
 use crate::service_rows::ServiceRows;
 use crate::wire_row::WireRow;
 use command_text::{RowPlace, ScenarioFault};
 use net_base::{EdgeId, List, Name, Offer, ServiceId, ServicePlan, Table as TableKind, WirePlan};
 use plan_names::NameIndex;
 use std::alloc::Global;
-
-// The number of the group at a place.
-fn group_number(groups: &[GroupRow], place: u16) -> u32
-    ensures { result ≡ number_at groups.now place }
-{
-    match groups.get(place as usize) {
-        Some(row) => row.number,
-        None => 0,
-    }
-}
 
 // The Group ID of an end. `UnknownName` comes exactly where no group has the name that is given.
 fn group_id(groups: GroupRows<'_, '_>, end: RowPlace, group: GroupUse) -> Result<u32, ScenarioFault>
@@ -35,7 +25,10 @@ fn group_id(groups: GroupRows<'_, '_>, end: RowPlace, group: GroupUse) -> Result
     match group {
         GroupUse::Number(number) => Ok(number),
         GroupUse::Named(name) => match named_place(end, "group", groups.index, &name) {
-            Ok(place) => Ok(group_number(groups.rows, place)),
+            Ok(place) => match groups.rows.get(place as usize) {
+                Some(row) => Ok(row.number),
+                None => Ok(0),
+            },
             Err(fault) => Err(fault),
         },
     }
@@ -146,10 +139,7 @@ pub fn wires(
 {
     let mut wires = List::new(alloc);
     for (i, row) in rows.iter().enumerate() {
-        let place = RowPlace {
-            table: TableKind::Wire,
-            index: i as u32 + 1,
-        };
+        let place = row_place(TableKind::Wire, i);
         let wire = wire(alloc, edges, services, groups, place, row)?;
         wires.push(wire)?;
     }
