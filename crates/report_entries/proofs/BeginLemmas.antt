@@ -1,20 +1,13 @@
 -- A report whose first line names the format is begun.
 use denote.Ref.{Bor}
-use Rattle.std.proofs.Common.{◌≡◌, ◌≤◌, ◌∙◌, ℕ, codes, Bool, true, false, cond, List, [], ◌∷◌, length, nat_eq, Option, Some, option_map, sym, ap, arith}
+use Rattle.std.proofs.Common.{◌≡◌, ◌∙◌, ℕ, codes, true, List, [], ◌∷◌, length, Option, Some, option_map, sym, ap, arith, length-append}
 use Rattle.std.specs.Str.{bytes_eq}
 use Rattle.report_entries.specs.declared.tally.Tally.{Tally}
 use Rattle.report_entries.specs.Answers.{HasBegun}
 use Rattle.report_entries.specs.Counted.{first_counts}
 use Rattle.octet_text.specs.Cut.{before_mark, behind_mark}
 use Rattle.report_entries.specs.Report.{goes_on, told_of}
-
--- what follows a mark is no longer than all
-fewer_behind : (mark : ℕ) (text more : List ℕ) → behind_mark mark text ≡ Some more → length more ≤ length text
-fewer_behind mark [] more is = absurd (cc is)
-fewer_behind mark (c ∷ cs) more is = by (nat_eq c mark) is (fewer_behind mark cs more) where
-  by : (b : Bool) → cond b (Some cs) (behind_mark mark cs) ≡ Some more → (behind_mark mark cs ≡ Some more → length more ≤ length cs) → length more ≤ length (c ∷ cs)
-  by true at rest = let whole : cs ≡ more = cc at in omega (arith, ap length whole)
-  by false at rest = omega (arith, rest at)
+use Rattle.report_entries.proofs.TraceLemmas.{cut_joined}
 
 pub has_begun : (text : List ℕ) (front rest : Bor (List ℕ)) (behind : Option (Bor (List ℕ))) (tally : Tally) (page : List ℕ) → front.now ≡ before_mark 10 text
     → option_map (λ r. r.now) behind ≡ behind_mark 10 text → behind ≡ Some rest
@@ -26,6 +19,6 @@ has_begun text front rest behind tally page before back found first counts none 
     record {
       tally = counts;
       ready = none;
-      fewer = fewer_behind 10 text rest.now cut;
+      fewer = omega (arith, ap length (cut_joined 10 text rest.now cut), length-append (before_mark 10 text) (10 ∷ rest.now));
       tells = λ plan. rw (cut, names) (ap (λ (t : Tally). goes_on (length rest.now) plan t rest.now) (sym counts));
     }

@@ -1,24 +1,19 @@
--- The words of a line are found again.
-use Rattle.std.proofs.Common.{◌≡◌, ◌≤◌, ◌+◌, ◌++◌, ◌&&◌, ◌∙◌, ℕ, zero, suc, codes, Bool, true, false, List, [], ◌∷◌, Some, None, length, nat_eq, not, refl, sym, ap, arith, append_assoc}
-use Rattle.std.proofs.lemmas.Bool.{eq-eqb}
-use Rattle.text_lines.specs.Lines.{line_of}
-use Rattle.read_lines.specs.Plain.{IsPlain, IsPlainLine, is_plain}
+-- The words of a line are found again, and lines in their text.
+use Rattle.std.proofs.Common.{◌≡◌, ◌<◌, ◌≤◌, ◌+◌, ◌++◌, ◌∙◌, nat_le, ℕ, zero, suc, codes, List, [], ◌∷◌, Some, length, take, refl, sym, ap, subst, arith, append_assoc, length-append}
+use Rattle.std.proofs.lemmas.Bool.{and_parts, eq-eqb}
+use Rattle.std.proofs.lemmas.Bool.Decides.{nat_tests}
+use Rattle.std.proofs.lemmas.List.{append_cancel_right, take_all}
+use Rattle.std.specs.List.{AllByRecursion, list_all}
+use Rattle.net_values.proofs.OptionLemmas.{some_same}
+use Rattle.net_values.proofs.RowLemmas.{all-append}
 use Rattle.octet_text.specs.Cut.{before_mark, behind_mark}
-use Rattle.report_entries.specs.Cut.{words_within}
-use Rattle.report_entries.specs.Laws.{IsFreeOf}
-
-no_blank : (c : ℕ) → is_plain c ≡ true → nat_eq c 32 ≡ false
-no_blank c plain = by (nat_eq c 32) (nat_eq c 10) plain where
-  by : (a b : Bool) → (not a && not b) ≡ true → a ≡ false
-  by true b is = absurd (cc is)
-  by false b is = refl
-
-no_feed : (c : ℕ) → is_plain c ≡ true → nat_eq c 10 ≡ false
-no_feed c plain = by (nat_eq c 32) (nat_eq c 10) plain where
-  by : (a b : Bool) → (not a && not b) ≡ true → b ≡ false
-  by true b is = absurd (cc is)
-  by false true is = absurd (cc is)
-  by false false is = refl
+use Rattle.script_text.specs.Parts.{parted_by}
+use Rattle.script_text.specs.Script.{is_graphic, spaced_words, words_of}
+use Rattle.script_text.proofs.PartLemmas.{AreWhole, IsWhole, words_again, words_begin, words_behind}
+use Rattle.text_lines.specs.Lines.{line_of}
+use Rattle.event_laws.proofs.ValueLemmas.{AreGraphic, IsGraphic}
+use Rattle.report_entries.specs.Reading.{line_words}
+use Rattle.report_entries.specs.Laws.{IsFreeOf, IsPlainLine, LinesAreToldApart, text_of_lines}
 
 -- what stands in front of a mark, and behind it
 pub before_one : (mark : ℕ) (word rest : List ℕ) → IsFreeOf mark word → before_mark mark (word ++ mark ∷ rest) ≡ word
@@ -29,57 +24,101 @@ pub behind_one : (mark : ℕ) (word rest : List ℕ) → IsFreeOf mark word → 
 behind_one mark [] rest free = rw (eq-eqb mark mark refl) refl
 behind_one mark (c ∷ cs) rest free = rw free.0 (behind_one mark cs rest free.1)
 
-before_end : (mark : ℕ) (word : List ℕ) → IsFreeOf mark word → before_mark mark word ≡ word
-before_end mark [] free = refl
-before_end mark (c ∷ cs) free = rw free.0 (ap (λ (l : List ℕ). c ∷ l) (before_end mark cs free.1))
+-- ---- words without blanks and line feeds
 
-behind_end : (mark : ℕ) (word : List ℕ) → IsFreeOf mark word → behind_mark mark word ≡ None
-behind_end mark [] free = refl
-behind_end mark (c ∷ cs) free = rw free.0 (behind_end mark cs free.1)
+abbrev ArePlain : List (List ℕ) → Type 0
+ArePlain words = AllByRecursion (λ w. IsFreeOf 32 w × IsFreeOf 10 w) words
 
-word_free : (word : List ℕ) → IsPlain word → IsFreeOf 32 word
-word_free [] plain = tt
-word_free (c ∷ cs) plain = (no_blank c plain.0, word_free cs plain.1)
+whole_word : (word : List ℕ) → IsFreeOf 32 word → IsWhole word
+whole_word [] free = tt
+whole_word (c ∷ cs) free = (free.0, whole_word cs free.1)
 
-word_feedless : (word : List ℕ) → IsPlain word → IsFreeOf 10 word
-word_feedless [] plain = tt
-word_feedless (c ∷ cs) plain = (no_feed c plain.0, word_feedless cs plain.1)
+whole_words : (words : List (List ℕ)) → ArePlain words → AreWhole words
+whole_words [] are = tt
+whole_words (word ∷ words) are = (whole_word word are.0.0, whole_words words are.1)
 
-free-append : (mark : ℕ) (a b : List ℕ) → IsFreeOf mark a → IsFreeOf mark b → IsFreeOf mark (a ++ b)
-free-append mark [] b first next = next
-free-append mark (c ∷ cs) b first next = (first.0, free-append mark cs b first.1 next)
+line_free : (words : List (List ℕ)) → ArePlain words → IsFreeOf 10 (spaced_words words)
+line_free [] are = tt
+line_free (word ∷ []) are = are.0.1
+line_free (word ∷ next ∷ words) are = all-append _ word (32 ∷ spaced_words (next ∷ words)) are.0.1 (refl, line_free (next ∷ words) are.1)
 
--- the words of a line, without its line feed
-abbrev pub joined : List ℕ → List (List ℕ) → List ℕ
-joined word [] = word
-joined word (next ∷ words) = word ++ 32 ∷ joined next words
+line_spaced : (word : List ℕ) (words : List (List ℕ)) → line_of (word ∷ words) ≡ spaced_words (word ∷ words) ++ codes "\n"
+line_spaced word [] = refl
+line_spaced word (next ∷ words) = ap (λ (l : List ℕ). word ++ 32 ∷ l) (line_spaced next words) ∙ sym (append_assoc word (32 ∷ spaced_words (next ∷ words)) (codes "\n"))
 
-pub line_joined : (word : List ℕ) (words : List (List ℕ)) → line_of (word ∷ words) ≡ joined word words ++ codes "\n"
-line_joined word [] = refl
-line_joined word (next ∷ words) = ap (λ (l : List ℕ). word ++ 32 ∷ l) (line_joined next words) ∙ sym (append_assoc word (32 ∷ joined next words) (codes "\n"))
+-- a line of words, without its line feed
+pub record IsLineOf (words : List (List ℕ)) (line : List ℕ) : Type 0 where
+  pub is : line_of words ≡ line ++ codes "\n"
+  pub free : IsFreeOf 10 line
+  pub cut : line_words line ≡ words
 
--- what stands before the line feed is one text
-last_same : (a b : List ℕ) (c : ℕ) → a ++ c ∷ [] ≡ b ++ c ∷ [] → a ≡ b
-last_same [] [] c same = refl
-last_same [] (y ∷ []) c same = absurd (cc same)
-last_same [] (y ∷ (z ∷ b)) c same = absurd (cc same)
-last_same (x ∷ []) [] c same = absurd (cc same)
-last_same (x ∷ (z ∷ a)) [] c same = absurd (cc same)
-last_same (x ∷ a) (y ∷ b) c same =
-    let first : x ≡ y = cc same in
-    let rest : a ++ c ∷ [] ≡ b ++ c ∷ [] = cc same in
-    ap (λ (n : ℕ). n ∷ a) first ∙ ap (λ (l : List ℕ). y ∷ l) (last_same a b c rest)
+graphic_free : (mark : ℕ) (word : List ℕ) → mark < 33 → IsGraphic word → IsFreeOf mark word
+graphic_free mark [] low is = tt
+graphic_free mark (c ∷ cs) low is =
+    let both = and_parts (is_graphic c) (list_all is_graphic cs) is in
+    let above = (and_parts (nat_le 33 c) (nat_le c 126) both.0).0 in
+    (grind (arith, nat_tests, above, low), graphic_free mark cs low both.1)
 
-pub line_is : (word : List ℕ) (words : List (List ℕ)) (line : List ℕ) → line_of (word ∷ words) ≡ line ++ codes "\n" → line ≡ joined word words
-line_is word words line same = last_same line (joined word words) 10 (sym same ∙ line_joined word words)
+plain : (words : List (List ℕ)) → AreGraphic words → ArePlain words
+plain [] are = tt
+plain (word ∷ words) are = ((graphic_free 32 word (omega arith) are.0, graphic_free 10 word (omega arith) are.0), plain words are.1)
 
--- it is a line
-pub joined_free : (word : List ℕ) (words : List (List ℕ)) → IsPlainLine (word ∷ words) → IsFreeOf 10 (joined word words)
-joined_free word [] plain = word_feedless word plain.0
-joined_free word (next ∷ words) plain = free-append 10 word (32 ∷ joined next words) (word_feedless word plain.0) (refl, joined_free next words plain.1)
+pub line_of_words : (words : List (List ℕ)) → 0 < length words → length words ≤ 10 → AreGraphic words → IsLineOf words (spaced_words words)
+unfolding line_words
+line_of_words [] some few are = absurd (omega (arith, some))
+line_of_words (word ∷ words) some few are = record {
+  is = line_spaced word words;
+  free = line_free (word ∷ words) (plain (word ∷ words) are);
+  cut = ap (take 10) (words_again word words (whole_words (word ∷ words) (plain (word ∷ words) are))) ∙ take_all 10 (word ∷ words) few;
+}
 
-pub words_found : (most : ℕ) (word : List ℕ) (words : List (List ℕ)) → length words ≤ most → IsPlainLine (word ∷ words) → words_within (suc most) (joined word words) ≡ word ∷ words
-words_found most word [] few plain = rw (before_end 32 word (word_free word plain.0), behind_end 32 word (word_free word plain.0)) refl
-words_found zero word (next ∷ words) few plain = absurd (omega (arith, few))
-words_found (suc most) word (next ∷ words) few plain = rw (before_one 32 word (joined next words) (word_free word plain.0), behind_one 32 word (joined next words) (word_free word plain.0))
-    (ap (λ (l : List (List ℕ)). word ∷ l) (words_found most next words (omega (arith, few)) plain.1))
+-- they have no other one
+pub line_is : (words : List (List ℕ)) (line : List ℕ) → line_of words ≡ line ++ codes "\n" → 0 < length words → length words ≤ 10 → AreGraphic words → IsLineOf words line
+line_is words line same some few are =
+    let found = line_of_words words some few are in
+    subst (IsLineOf words) (append_cancel_right (spaced_words words) line (codes "\n") (sym found.is ∙ same)) found
+
+-- ---- the words of any line
+
+words_back : (line : List ℕ) → spaced_words (words_of line) ≡ line
+unfolding parted_by
+words_back line = sym (words_behind (32 ∷ line) line refl)
+
+short_front : (most : ℕ) (words : List (List ℕ)) → length (take (suc most) words) ≤ most → take (suc most) words ≡ words
+short_front most [] few = refl
+short_front zero (word ∷ words) few = absurd (omega (arith, few))
+short_front (suc most) (word ∷ words) few = ap (λ (l : List (List ℕ)). word ∷ l) (short_front most words (omega (arith, few)))
+
+-- a line that has no more words is that of its words
+pub line_again : (line : List ℕ) → length (line_words line) ≤ 9 → line_of (line_words line) ≡ line ++ codes "\n"
+unfolding line_words
+line_again line few =
+    let begun = words_begin line in
+    ap line_of (short_front 9 (words_of line) few ∙ begun) ∙ (line_spaced _ _ ∙ ap (λ (l : List ℕ). l ++ codes "\n") (ap spaced_words (sym begun) ∙ words_back line))
+
+-- ---- lines in their text
+
+one_line : (word : List ℕ) (words : List (List ℕ)) (rest : List ℕ) → line_of (word ∷ words) ++ rest ≡ spaced_words (word ∷ words) ++ 10 ∷ rest
+one_line word words rest = ap (λ (l : List ℕ). l ++ rest) (line_spaced word words) ∙ append_assoc (spaced_words (word ∷ words)) (codes "\n") rest
+
+some_line : {P : Type 0} (words : List (List ℕ)) (rest : List ℕ) → IsPlainLine words → line_of words ++ rest ≡ [] → P
+some_line [] rest are none = absurd are
+some_line (word ∷ words) rest are none = absurd (omega (arith, ap length (sym (one_line word words rest) ∙ none), length-append (spaced_words (word ∷ words)) (10 ∷ rest)))
+
+line_same : (a b : List (List ℕ)) (s t : List ℕ) → IsPlainLine a → IsPlainLine b → line_of a ++ s ≡ line_of b ++ t → (a ≡ b) × (s ≡ t)
+line_same [] b s t pa pb same = absurd pa
+line_same (w ∷ ws) [] s t pa pb same = absurd pb
+line_same (w ∷ ws) (v ∷ vs) s t pa pb same =
+    let text : spaced_words (w ∷ ws) ++ 10 ∷ s ≡ spaced_words (v ∷ vs) ++ 10 ∷ t = sym (one_line w ws s) ∙ (same ∙ one_line v vs t) in
+    let line : spaced_words (w ∷ ws) ≡ spaced_words (v ∷ vs) = sym (before_one 10 _ s (line_free (w ∷ ws) pa)) ∙ (ap (before_mark 10) text ∙ before_one 10 _ t (line_free (v ∷ vs) pb)) in (
+      sym (words_again w ws (whole_words (w ∷ ws) pa)) ∙ (ap words_of line ∙ words_again v vs (whole_words (v ∷ vs) pb)),
+      some_same (sym (behind_one 10 _ s (line_free (w ∷ ws) pa)) ∙ (ap (behind_mark 10) text ∙ behind_one 10 _ t (line_free (v ∷ vs) pb))),
+    )
+
+pub texts_same : LinesAreToldApart
+texts_same [] [] pa pb same = refl
+texts_same [] (y ∷ b) pa pb same = some_line y (text_of_lines b) pb.0 (sym same)
+texts_same (x ∷ a) [] pa pb same = some_line x (text_of_lines a) pa.0 same
+texts_same (x ∷ a) (y ∷ b) pa pb same =
+    let here = line_same x y (text_of_lines a) (text_of_lines b) pa.0 pb.0 same in
+    λ i. here.0 i ∷ texts_same a b pa.1 pb.1 here.1 i

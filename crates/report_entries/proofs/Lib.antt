@@ -1,15 +1,12 @@
-pub mod AgainLemmas
 pub mod ApartLemmas
 pub mod BeginLemmas
 pub mod CutLemmas
 pub mod DigitLemmas
 pub mod FoundLemmas
-pub mod NamedLemmas
-pub mod PlainLemmas
+pub mod ReadLemmas
 pub mod ReportFoundLemmas
 pub mod ReportLemmas
 pub mod RowLemmas
-pub mod SmallLemmas
 pub mod ToldLemmas
 pub mod TraceLemmas
 pub mod WordLemmas

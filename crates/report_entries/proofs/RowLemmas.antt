@@ -1,14 +1,10 @@
--- The rows of entries without octets: what they make names places of the plan and has the words of the row, and each of them has a row.
-use Rattle.std.proofs.Common.{◌≡◌, ◌<◌, ℕ, codes, List, [], ◌∷◌, Option, Some, None, refl, ap, arith}
+-- The rows of entries without octets: what they make names places of the plan and has the words of the row.
+use Rattle.std.proofs.Common.{◌≡◌, ◌<◌, ℕ, codes, List, [], ◌∷◌, length, Option, Some, None, refl, ap, arith}
 use Rattle.net_base.specs.declared.plan.Plan.{Plan}
-use Rattle.net_base.specs.declared.plan.places.EdgeId.{EdgeId}
-use Rattle.net_base.specs.declared.plan.places.WireId.{WireId}
 use Rattle.net_base.specs.declared.trace.down.Down.{Down}
 use Rattle.net_base.specs.declared.trace.down.Down.TheVariants as down
 use Rattle.net_base.specs.declared.trace.drop_cause.DropCause.{DropCause}
 use Rattle.net_base.specs.declared.trace.drop_cause.DropCause.TheVariants as cause
-use Rattle.net_base.specs.declared.trace.entry.Entry.{Entry}
-use Rattle.net_base.specs.declared.trace.entry.Entry.TheVariants as entry
 use Rattle.net_base.specs.declared.trace.state_name.Reason.TheVariants as reason
 use Rattle.net_base.specs.declared.trace.state_name.StateName.{StateName}
 use Rattle.net_base.specs.declared.trace.state_name.StateName.TheVariants as state
@@ -16,12 +12,10 @@ use Rattle.plan_names.proofs.BelowLemmas.{all_below}
 use Rattle.line_shapes.specs.Choices.{cause_at, cause_place, choice_word, wire_end_at, wire_end_place, state_at, state_place}
 use Rattle.line_shapes.specs.declared.choice.Choice.TheVariants as choice
 use Rattle.report_text.specs.Named.{IsEntryNamed}
-use Rattle.event_rows.specs.Rows.{IsFromTo, IsNamedEdge, IsToldNumber, IsWire}
 use Rattle.report_text.specs.Report.{entry_words}
 use Rattle.line_shapes.specs.Shapes.{AreValuesOf, form_at, row_words, nth_value, value_word}
-use Rattle.line_shapes.specs.declared.kind.Kind.{Kind}
 use Rattle.line_shapes.specs.declared.kind.Kind.TheVariants as kind
-use Rattle.line_shapes.proofs.TableLemmas.{AllBelow, IsRow}
+use Rattle.line_shapes.proofs.TableLemmas.{AllBelow}
 use Rattle.event_rows.proofs.RowLemmas.{at_end_of, word_same}
 use Rattle.report_text.specs.Rows.{entry_forms, entry_made}
 
@@ -39,7 +33,7 @@ state_word : (n : ℕ) → n < 16 → choice_word choice.State (state_place (sta
 unfolding all_below
 state_word n lt = word_same choice.State state_at state_place n refl lt
 
-cause_told : (x : DropCause) → (cause_place x < 18) × (cause_at (cause_place x) ≡ x)
+pub cause_told : (x : DropCause) → (cause_place x < 18) × (cause_at (cause_place x) ≡ x)
 cause_told cause.Short = (omega arith, refl)
 cause_told cause.Long = (omega arith, refl)
 cause_told cause.WrongTag = (omega arith, refl)
@@ -59,7 +53,7 @@ cause_told cause.Icmp = (omega arith, refl)
 cause_told cause.NotOffered = (omega arith, refl)
 cause_told cause.LinkFault = (omega arith, refl)
 
-end_told : (x : Option Down) → (wire_end_place x < 9) × (wire_end_at (wire_end_place x) ≡ x)
+pub end_told : (x : Option Down) → (wire_end_place x < 9) × (wire_end_at (wire_end_place x) ≡ x)
 end_told None = (omega arith, refl)
 end_told (Some down.NoLocal) = (omega arith, refl)
 end_told (Some down.NoRemote) = (omega arith, refl)
@@ -70,7 +64,7 @@ end_told (Some down.LocalFault) = (omega arith, refl)
 end_told (Some down.RemoteFault) = (omega arith, refl)
 end_told (Some down.Standby) = (omega arith, refl)
 
-state_told : (x : StateName) → (state_place x < 16) × (state_at (state_place x) ≡ x)
+pub state_told : (x : StateName) → (state_place x < 16) × (state_at (state_place x) ≡ x)
 state_told state.NonExistent = (omega arith, refl)
 state_told state.Initialized = (omega arith, refl)
 state_told state.OpenSent = (omega arith, refl)
@@ -123,60 +117,5 @@ module _ (plan : Plan) where
   pong_row : EntryRow plan 6
   pong_row v fit = ((fit.1.0, (fit.1.1.1.0, fit.1.1.1.1.1.0)), refl)
 
-  pub entry_rows : AllBelow (EntryRow plan) 7
+  pub entry_rows : AllBelow (EntryRow plan) (length entry_forms)
   entry_rows = (((((((tt, session_row), down_row), dropped_row), idle_row), copied_row), aged_row), pong_row)
-
-  -- ---- the row of each
-
-  abbrev pub IsEntryRow : Entry → Type 0
-  IsEntryRow x = IsRow plan entry_forms entry_made (entry_words plan x) x
-
-  pub idle_told : IsEntryRow entry.Idle
-  idle_told = record { row = 3; values = []; within = omega arith; fit = refl; written = refl; is = refl }
-
-  pub session_told : (edge peer : EdgeId) (x : StateName) → IsNamedEdge plan edge → IsNamedEdge plan peer → IsEntryRow (entry.Session edge peer x)
-  session_told edge peer x is_edge is_peer = record {
-    row = 0;
-    values = edge.0 ∷ peer.0 ∷ state_place x ∷ [];
-    within = omega arith;
-    fit = (refl, (is_edge, (refl, (is_peer, (refl, ((state_told x).0, refl))))));
-    written = refl;
-    is = ap (entry.Session edge peer) (state_told x).1;
-  }
-
-  pub down_told : (edge : EdgeId) (wire : WireId) (x : Option Down) → IsNamedEdge plan edge → IsWire plan wire → IsEntryRow (entry.Wire edge wire x)
-  down_told edge wire x is_edge is_wire = record {
-    row = 1;
-    values = edge.0 ∷ wire.0 ∷ wire_end_place x ∷ [];
-    within = omega arith;
-    fit = (refl, (is_edge, (refl, (is_wire, (refl, ((end_told x).0, refl))))));
-    written = refl;
-    is = ap (entry.Wire edge wire) (end_told x).1;
-  }
-
-  pub dropped_told : (edge : EdgeId) (origin : ℕ) (x : DropCause) → IsNamedEdge plan edge → IsToldNumber origin → IsEntryRow (entry.Dropped edge origin x)
-  dropped_told edge origin x is_edge is_origin = record {
-    row = 2;
-    values = edge.0 ∷ origin ∷ cause_place x ∷ [];
-    within = omega arith;
-    fit = (refl, (is_edge, (refl, ((omega arith, omega (arith, is_origin)), (refl, ((cause_told x).0, refl))))));
-    written = refl;
-    is = ap (entry.Dropped edge origin) (cause_told x).1;
-  }
-
-  pub copied_told : (packet of : ℕ) → IsToldNumber packet → IsToldNumber of → IsEntryRow (entry.Copied packet of)
-  copied_told packet of is_packet is_of = record {
-    row = 4;
-    values = packet ∷ of ∷ [];
-    within = omega arith;
-    fit = (refl, ((omega arith, omega (arith, is_packet)), (refl, ((omega arith, omega (arith, is_of)), refl))));
-    written = refl;
-    is = refl;
-  }
-
-  pub aged_told : (packet : ℕ) → IsToldNumber packet → IsEntryRow (entry.Aged packet)
-  aged_told packet is_packet = record { row = 5; values = packet ∷ []; within = omega arith; fit = (refl, ((omega arith, omega (arith, is_packet)), refl)); written = refl; is = refl }
-
-  pub pong_told : (edge : EdgeId) (wire : WireId) (sequence : ℕ) → IsNamedEdge plan edge → IsWire plan wire → IsFromTo 0 65535 sequence → IsEntryRow (entry.Pong edge wire sequence)
-  pong_told edge wire sequence is_edge is_wire is_sequence =
-      record { row = 6; values = edge.0 ∷ wire.0 ∷ sequence ∷ []; within = omega arith; fit = (refl, (is_edge, (refl, (is_wire, (refl, (is_sequence, refl)))))); written = refl; is = refl }

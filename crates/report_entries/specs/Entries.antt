@@ -11,9 +11,8 @@ use Rattle.report_text.specs.Report.{entry_line}
 use Rattle.report_text.specs.Rows.{entry_forms, entry_made}
 use Rattle.report_entries.specs.declared.passed.Carried.{Carried}
 use Rattle.report_entries.specs.declared.passed.Passed.{Passed}
-use Rattle.report_entries.specs.Cut.{line_words}
 use Rattle.report_entries.specs.Events.{event_told}
-use Rattle.report_entries.specs.Reading.{◌>>=◌, arrival_in, circuit_of_word, edge_of_word, number_in, digits_told, wire_of_word}
+use Rattle.report_entries.specs.Reading.{◌>>=◌, arrival_in, circuit_of_word, edge_of_word, line_words, number_in, digits_told, wire_of_word}
 
 unfoldable pub said_in : PlanNames → List (List ℕ) → Option Entry
 said_in names (from ∷ to ∷ octets ∷ []) = do

@@ -5,6 +5,7 @@ use Rattle.net_base.specs.declared.plan.Plan.{Plan}
 use Rattle.net_base.specs.declared.trace.entry.Entry.{Entry}
 use Rattle.net_base.specs.plan.Accepted.{IsChecked}
 use Rattle.plan_names.specs.Planned.{HasNames}
+use Rattle.text_lines.specs.Lines.{line_of}
 use Rattle.report_text.specs.Named.{IsEntryNamed}
 use Rattle.report_text.specs.Read.{ReadReport}
 use Rattle.report_text.specs.Report.{entry_line, entry_lines}
@@ -43,6 +44,20 @@ TracesAreTold = (plan : Plan) (text : List ℕ) (trace : List Entry) → told_of
 -- octets without such a one
 abbrev pub IsFreeOf : ℕ → List ℕ → Type 0
 IsFreeOf mark octets = AllByRecursion (λ c. c == mark ≡ false) octets
+
+-- a line of words without blanks and line feeds: there is a first one, which may be empty as each other one may
+abbrev pub IsPlainLine : List (List ℕ) → Type 0
+IsPlainLine [] = ⊥
+IsPlainLine (word ∷ words) = AllByRecursion (λ w. IsFreeOf 32 w × IsFreeOf 10 w) (word ∷ words)
+
+-- the text of lines
+abbrev pub text_of_lines : List (List (List ℕ)) → List ℕ
+text_of_lines [] = []
+text_of_lines (words ∷ lines) = line_of words ++ text_of_lines lines
+
+-- lists of lines have the same text only where they are the same
+abbrev pub LinesAreToldApart : Type 0
+LinesAreToldApart = (a b : List (List (List ℕ))) → AllByRecursion IsPlainLine a → AllByRecursion IsPlainLine b → text_of_lines a ≡ text_of_lines b → a ≡ b
 
 -- the report of entries that name places of a checked plan is read as these, behind any right last line
 abbrev pub ReportsAreRead : Type 0

@@ -1,6 +1,5 @@
 pub mod Answers
 pub mod Counted
-pub mod Cut
 pub mod Entries
 pub mod Events
 pub mod Laws

@@ -1,13 +1,13 @@
 -- What the words of a report's lines say. No two words say the same: numbers have no leading zeros, and digits no capital letters.
-use Rattle.std.specs.Prelude.{◌≡◌, codes, ℕ, List, Option, Some, None, option_map, is_some, Result, Ok, Err, if◌then◌else◌}
-use Rattle.std.specs.List.{list_all}
+use Rattle.std.specs.Prelude.{◌≡◌, codes, take, false, ℕ, List, Option, Some, None, option_map, is_some, Result, Ok, Err, if◌then◌else◌}
 use Rattle.std.specs.Str.{bytes_eq}
 use Rattle.net_base.specs.declared.plan.places.CircuitId.{CircuitId}
 use Rattle.net_base.specs.declared.plan.places.EdgeId.{EdgeId}
 use Rattle.net_base.specs.declared.plan.places.WireId.{WireId}
 use Rattle.net_base.specs.declared.trace.arrival.Arrival.{Arrival}
 use Rattle.net_base.specs.declared.trace.arrival.Arrival.TheVariants as arrival
-use Rattle.octet_text.specs.Hex.{is_small, unhex}
+use Rattle.octet_text.specs.Hex.{digits_in, unhex}
+use Rattle.script_text.specs.Script.{words_of}
 use Rattle.plan_names.specs.declared.plan_names.PlanNames.{PlanNames}
 use Rattle.plan_names.specs.Names.{place_in}
 use Rattle.plan_names.specs.Decimal.{decimal_from}
@@ -26,6 +26,10 @@ Reads (Err NoEntry) read = read ≡ None
 Reads (Err NoMemory) read = Unit {0}
 
 -- ---- words
+
+-- no line that a report has is longer than nine words, so that the first ten tell whether it is one. It is cut at each blank, so that a word may be empty
+unfoldable pub line_words : List ℕ → List (List ℕ)
+line_words line = take 10 (words_of line)
 
 -- the edge with this name
 unfoldable pub edge_of_word : PlanNames → List ℕ → Option EdgeId
@@ -50,6 +54,6 @@ arrival_in names word =
 unfoldable pub number_in : List ℕ → Option ℕ
 number_in word = decimal_from 0 18446744073709551615 word
 
--- pairs of digits, without capital letters
+-- pairs of digits, of which no capital letter is one
 unfoldable pub digits_told : List ℕ → Option (List ℕ)
-digits_told word = if list_all is_small word then unhex word else None
+digits_told word = unhex (digits_in false word)

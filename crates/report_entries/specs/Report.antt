@@ -7,7 +7,8 @@ use Rattle.plan_names.specs.Decimal.{is_decimal}
 use Rattle.report_text.specs.Report.{counts_told}
 use Rattle.text_lines.specs.Lines.{line_of}
 use Rattle.octet_text.specs.Cut.{before_mark, behind_mark}
-use Rattle.report_entries.specs.Cut.{report_line_feed, line_words}
+use Rattle.report_entries.specs.Reading.{line_words}
+use Rattle.script_text.specs.Script.{line_feed}
 use Rattle.report_entries.specs.Entries.{line_entry}
 use Rattle.report_entries.specs.declared.tally.Tally.{Tally}
 use Rattle.report_entries.specs.Counted.{tallied, first_counts}
@@ -52,9 +53,9 @@ with_entry entry told = told >>= (λ entries. Ok (entry ∷ entries))
 -- octets, and behind them a right last line with nothing behind it
 abbrev pub goes_on : ℕ → Plan → Tally → List ℕ → Result (List Entry) ℕ
 goes_on zero plan tally text = Err (tally.lines + 1)
-goes_on (suc most) plan tally text = found_on_line (tally.lines + 1) (behind_mark report_line_feed text) >>= (λ more.
-    if ends_report tally (before_mark report_line_feed text) then (if length more == 0 then Ok [] else Err (tally.lines + 2))
-    else found_on_line (tally.lines + 1) (line_entry plan (before_mark report_line_feed text)) >>= (λ entry. with_entry entry (goes_on most plan (tallied entry tally) more)))
+goes_on (suc most) plan tally text = found_on_line (tally.lines + 1) (behind_mark line_feed text) >>= (λ more.
+    if ends_report tally (before_mark line_feed text) then (if length more == 0 then Ok [] else Err (tally.lines + 2))
+    else found_on_line (tally.lines + 1) (line_entry plan (before_mark line_feed text)) >>= (λ entry. with_entry entry (goes_on most plan (tallied entry tally) more)))
 
 -- the first line names the format
 abbrev pub begins_report : List ℕ → Bool
@@ -62,4 +63,4 @@ begins_report line = bytes_eq line (codes "vplsnet 1")
 
 -- the trace that a report tells, or the first line that breaks the form of a report
 unfoldable pub told_of : Plan → List ℕ → Result (List Entry) ℕ
-told_of plan text = found_on_line 1 (behind_mark report_line_feed text) >>= (λ more. if begins_report (before_mark report_line_feed text) then goes_on (length more) plan first_counts more else Err 1)
+told_of plan text = found_on_line 1 (behind_mark line_feed text) >>= (λ more. if begins_report (before_mark line_feed text) then goes_on (length more) plan first_counts more else Err 1)

@@ -1,6 +1,7 @@
 //! The words of a line.
 ghost use Rattle.std.specs.Prelude.{◌≡◌, ◌≤◌, length, map, take};
-ghost use Rattle.report_entries.specs.Cut.{line_words, words_within};
+ghost use Rattle.script_text.specs.Script.{words_of};
+ghost use Rattle.report_entries.specs.Reading.{line_words};
 
 use octet_text::cut_at;
 
@@ -8,7 +9,7 @@ use octet_text::cut_at;
 fn first_words<'a>(line: &'a [u8], room: &mut [&'a [u8]]) -> usize
     ensures size { length room.new ≡ length room.old }
     ensures within { result ≤ length room.new }
-    ensures words { map (λ w. w.now) (take result room.new) ≡ words_within (length room.old) line.now }
+    ensures words { map (λ w. w.now) (take result room.new) ≡ take (length room.old) (words_of line.now) }
 {
     let most = room.len();
     let mut rest = line;
@@ -26,7 +27,7 @@ fn first_words<'a>(line: &'a [u8], room: &mut [&'a [u8]]) -> usize
 }
 
 /// Puts the first ten words of a line, which is cut at each blank, into room, and tells how many they are. It takes no memory.
-#[tactic(auto, unfolding(crate::specs::Cut::line_words))]
+#[tactic(auto, unfolding(crate::specs::Reading::line_words))]
 pub fn words_of<'a>(line: &'a [u8], room: &mut [&'a [u8]; 10]) -> usize
     ensures size { length room.new ≡ 10 }
     ensures within { result ≤ length room.new }

@@ -2,7 +2,7 @@
 ghost use Rattle.std.specs.Prelude.{◌≡◌, map, IfOk};
 ghost use Rattle.plan_names.specs.Planned.{names_of};
 ghost use Rattle.report_text.specs.Named.{IsEntryNamed};
-ghost use Rattle.report_entries.specs.{Answers.{Finds}, Cut.{line_words}, Entries.{line_entry}, Reading.{Reads}, Report.{found_on_line}};
+ghost use Rattle.report_entries.specs.{Answers.{Finds}, Entries.{line_entry}, Reading.{Reads, line_words}, Report.{found_on_line}};
 
 use crate::entry::words_entry;
 use crate::{ReportFault, Unread};
@@ -11,7 +11,7 @@ use plan_names::PlanNames;
 use std::alloc::Global;
 
 // The entry of a line with these words. No two words say the same, so that this is its line; and what is read names places of the plan.
-#[tactic(auto, using(crate::proofs::AgainLemmas::reads_line_of, crate::proofs::AgainLemmas::names_places))]
+#[tactic(auto, using(crate::proofs::ReadLemmas::reads_line_of, crate::proofs::ReadLemmas::names_places))]
 fn read_entry(
     alloc: Global,
     plan: &Plan,

@@ -1,7 +1,7 @@
 //! The last line of a report.
 ghost use Rattle.std.specs.{Prelude.{◌≡◌, ◌++◌, ◌&&◌, ◌||◌, [], codes, map, IfOk, OnOk}, List.{list_all}, Str.{bytes_eq}};
 ghost use Rattle.plan_names.specs.Decimal.{is_decimal, is_digit_of};
-ghost use Rattle.report_entries.specs.{Cut.{line_words}, Report.{ends_report, is_stop, tally_line}};
+ghost use Rattle.report_entries.specs.{Reading.{line_words}, Report.{ends_report, is_stop, tally_line}};
 
 use crate::line_writer::LineWriter;
 use crate::tally::Tally;

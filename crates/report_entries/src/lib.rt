@@ -20,8 +20,8 @@ mod unread;
 mod values;
 
 pub use laws::{
-    lines_are_read, lines_name_places, reads_lines, reports_are_read, reports_are_told,
-    reports_are_told_apart, traces_are_told,
+    lines_are_read, lines_are_told_apart, lines_name_places, reads_lines, reports_are_read,
+    reports_are_told, reports_are_told_apart, traces_are_told,
 };
 pub use report_fault::ReportFault;
 pub use report_reader::ReportReader;

@@ -70,7 +70,7 @@ pub fn number(word: &[u8]) -> Result<u64, Unread>
 }
 
 /// Octets as pairs of hexadecimal digits, without capital letters.
-#[tactic(auto, using(crate::proofs::SmallLemmas::told_small))]
+#[tactic(auto, unfolding(crate::specs::Reading::digits_told))]
 pub fn octets(alloc: Global, word: &[u8]) -> Result<Octets, Unread>
     ensures { Reads result (digits_told word.now) }
 {
