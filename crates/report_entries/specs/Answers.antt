@@ -1,20 +1,12 @@
 -- What reading a report answers.
-use denote.Ref.{Bor}
 use Rattle.std.specs.Prelude.{◌≡◌, ◌≤◌, ℕ, suc, List, [], length, Option, Some, None, Result, Ok, Err}
 use Rattle.net_base.specs.declared.plan.Plan.{Plan}
 use Rattle.net_base.specs.declared.trace.entry.Entry.{Entry}
 use Rattle.report_entries.specs.declared.report_fault.ReportFault.{ReportFault}
 use Rattle.report_entries.specs.declared.report_fault.ReportFault.TheVariants.{Form, NoMemory}
-use Rattle.report_entries.specs.declared.tally.Tally.{Tally}
 use Rattle.report_entries.specs.Counted.{first_counts}
 use Rattle.report_entries.specs.ReadSoFar.{ReadSoFar}
 use Rattle.report_entries.specs.Report.{goes_on, told_of, with_entry}
-
--- a call finds what the definition says, want of memory apart
-abbrev pub Finds : {A : Type 0} → Result A ReportFault → Result A ℕ → Type 0
-Finds (Ok x) read = read ≡ Ok x
-Finds (Err (Form line)) read = read ≡ Err line
-Finds (Err NoMemory) read = Unit {0}
 
 -- the first line was read, and the rest tells the trace
 pub record HasBegun (text : List ℕ) (reader : ReadSoFar) : Type 0 where

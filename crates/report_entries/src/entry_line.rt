@@ -2,17 +2,17 @@
 ghost use Rattle.std.specs.Prelude.{◌≡◌, map, IfOk};
 ghost use Rattle.plan_names.specs.Planned.{names_of};
 ghost use Rattle.report_text.specs.Named.{IsEntryNamed};
-ghost use Rattle.report_entries.specs.{Answers.{Finds}, Entries.{line_entry}, Reading.{Reads, line_words}, Report.{found_on_line}};
+ghost use Rattle.report_entries.specs.{Entries.{line_entry}, Reading.{Reads, line_words}};
 
+use crate::Unread;
 use crate::entry::words_entry;
-use crate::{ReportFault, Unread};
 use net_base::{Entry, Plan};
 use plan_names::PlanNames;
 use std::alloc::Global;
 
-// The entry of a line with these words. No two words say the same, so that this is its line; and what is read names places of the plan.
+/// The entry of a line with these words. No two words say the same, so that this is its line; and what is read names places of the plan.
 #[tactic(auto, using(crate::proofs::ReadLemmas::reads_line_of, crate::proofs::ReadLemmas::names_places))]
-fn read_entry(
+pub fn line_entry(
     alloc: Global,
     plan: &Plan,
     names: &PlanNames<'_>,
@@ -25,25 +25,4 @@ fn read_entry(
     ensures named { IfOk result (IsEntryNamed plan.now) }
 {
     words_entry(alloc, plan, names, words)
-}
-
-/// The entry of a line, or that the form is broken in the line of this number.
-pub fn entry_at(
-    alloc: Global,
-    plan: &Plan,
-    names: &PlanNames<'_>,
-    line: &[u8],
-    words: &[&[u8]],
-    number: u64,
-) -> Result<Entry, ReportFault>
-    requires names { names.now ≡ names_of plan.now }
-    requires words { map (λ w. w.now) words.now ≡ line_words line.now }
-    ensures found { Finds result (found_on_line number (line_entry plan.now line.now)) }
-    ensures named { IfOk result (IsEntryNamed plan.now) }
-{
-    match read_entry(alloc, plan, names, line, words) {
-        Ok(entry) => Ok(entry),
-        Err(Unread::NoEntry) => Err(ReportFault::Form { line: number }),
-        Err(Unread::NoMemory) => Err(ReportFault::NoMemory),
-    }
 }

@@ -4,12 +4,12 @@ ghost use Rattle.plan_names.specs.Planned.{names_of};
 ghost use Rattle.report_text.specs.Named.{IsEntryNamed};
 ghost use Rattle.report_entries.specs.{Answers.{Begins, ReportGoesOn}, Counted.{AreTallied}};
 
-use crate::ReportFault;
 use crate::cut::words_of;
-use crate::entry_line::entry_at;
+use crate::entry_line::line_entry;
 use crate::last_line::is_last_line;
 use crate::line_writer::LineWriter;
 use crate::tally::Tally;
+use crate::{ReportFault, Unread};
 use line_shapes::is_word;
 use net_base::{Entry, Plan};
 use octet_text::cut_at;
@@ -104,9 +104,14 @@ impl<'a> ReportReader<'a> {
                 Err(ReportFault::Form { line: number + 1 })
             };
         }
-        let entry = entry_at(alloc, plan, names, line, words, number)?;
-        self.tally.add(&entry);
-        self.rest = more;
-        Ok(Some(entry))
+        match line_entry(alloc, plan, names, line, words) {
+            Ok(entry) => {
+                self.tally.add(&entry);
+                self.rest = more;
+                Ok(Some(entry))
+            }
+            Err(Unread::NoEntry) => Err(ReportFault::Form { line: number }),
+            Err(Unread::NoMemory) => Err(ReportFault::NoMemory),
+        }
     }
 }
