@@ -1,5 +1,5 @@
 //! Offers as tables.
-ghost use Rattle.std.specs.{Prelude.{◌≡◌, ◌++◌, codes, unwrap_or, string_bytes, IfOk, OnOk}, Str.{IsUtf8}};
+ghost use Rattle.std.specs.{Prelude.{◌≡◌, ◌++◌, codes, string_bytes, IfOk, OnOk}, Str.{IsUtf8}};
 ghost use Rattle.toml.specs.View.{table_view};
 ghost use Rattle.migration.specs.{Groups.{group_name}, Rows.{offer_table, put_group}};
 
@@ -29,26 +29,6 @@ fn put_group_of(alloc: Global, table: &mut Table, group: u32) -> Result<(), NoMe
     put_text(alloc, table, "group", name.as_str())
 }
 
-// A number that is told, 0 where it is not.
-fn mtu_or_zero(number: Option<u16>) -> u32
-    ensures { result ≡ unwrap_or number 0 }
-{
-    match number {
-        Some(number) => u32::from(number),
-        None => 0,
-    }
-}
-
-// Bits that are told, 0 where they are not.
-fn bits_or_zero(bits: Option<u8>) -> u32
-    ensures { result ≡ unwrap_or bits 0 }
-{
-    match bits {
-        Some(bits) => u32::from(bits),
-        None => 0,
-    }
-}
-
 /// A number of 16 bits, where it is told.
 pub fn wide(number: Option<u16>) -> Option<u32>
     ensures { result ≡ number }
@@ -70,9 +50,14 @@ pub fn offer_keys(alloc: Global, offer: &Offer) -> Result<Table, NoMemory>
     put_text(alloc, &mut table, "description", description)?;
     put_group_of(alloc, &mut table, offer.group)?;
     put_boolean(alloc, &mut table, "status", offer.status)?;
-    put_number(alloc, &mut table, "vccv", bits_or_zero(offer.vccv))?;
+    put_number(
+        alloc,
+        &mut table,
+        "vccv",
+        u32::from(offer.vccv.unwrap_or(0)),
+    )?;
     put_told(alloc, &mut table, "vlan", wide(offer.vlan))?;
-    put_number(alloc, &mut table, "mtu", mtu_or_zero(offer.mtu))?;
+    put_number(alloc, &mut table, "mtu", u32::from(offer.mtu.unwrap_or(0)))?;
     put_boolean(alloc, &mut table, "control_word", offer.cword)?;
     put_text(alloc, &mut table, "mode", mode_text(offer.tagged))?;
     Ok(table)

@@ -1,81 +1,115 @@
 //! Rows as tables.
-ghost use Rattle.std.specs.{Prelude.{◌≡◌, map, string_bytes, IfOk}, List.{All}, Net.Text.{ipv4_text}};
+ghost use Rattle.std.specs.{Prelude.{◌≡◌, map, IfOk}, List.{All}};
 ghost use Rattle.toml.specs.{Data.{string, table}, View.{view, table_view}};
 ghost use Rattle.line_shapes.specs.Words.{edge_name};
-ghost use Rattle.migration.specs.Rows.{edge_table, service_table, group_table, circuit_table, ends_table, wire_table};
-ghost use Rattle.migration.specs.Sayable.{HasTexts};
+ghost use Rattle.migration.specs.{Rows.{ends_table}, Sayable.{HasTexts}};
 
 use crate::items::{push_table, push_text};
 use crate::keys::{no_keys, put_array, put_number, put_table, put_text, put_told};
 use crate::names::{class_text, edge_text, name_text, service_text};
 use crate::offers::{group_text, offer_keys, wide};
-use net_base::{Addr, CircuitPlan, EdgeId, EdgePlan, NoMemory, Plan, ServicePlan, WirePlan};
+use net_base::{CircuitPlan, EdgeId, EdgePlan, NoMemory, Plan, ServicePlan, WirePlan};
 use std::alloc::Global;
 use std::net::Ipv4Addr;
 use toml::{Table, Value};
 
-// An address as a dotted quad.
-fn address_text(alloc: Global, address: Addr) -> Result<String, NoMemory>
-    ensures { IfOk result (λ t. string_bytes t ≡ ipv4_text address.0) }
-{
-    Ok(Ipv4Addr::from(address.0).to_string(alloc)?)
+/// A row of a plan, which a table of the document says.
+pub trait PlanRow: Sized {
+    ghost use Rattle.toml.specs.Data.{Members};
+    ghost use Rattle.net_base.specs.declared.plan.Plan.{Plan as Planned};
+
+    /// The table that says a row of a plan.
+    ghost table_of: { Planned → Self → Members };
+
+    /// What a row has to be, that a table can say it.
+    ghost is_sayable: { Self → Type 0 };
+
+    /// The table of a row of a plan.
+    fn keys(&self, alloc: Global, plan: &Plan) -> Result<Table, NoMemory>
+        requires { is_sayable self.now }
+        ensures { IfOk result (λ t. table_view t ≡ table_of plan.now self.now) };
 }
 
-// The table of an edge.
-#[tactic(auto, unfolding(crate::specs::Rows::edge_table))]
-fn edge_keys(alloc: Global, edge: &EdgePlan) -> Result<Table, NoMemory>
-    ensures { IfOk result (λ t. table_view t ≡ edge_table edge.now) }
-{
-    let mut table = no_keys(alloc);
-    put_number(alloc, &mut table, "max_pdu", u32::from(edge.max_pdu))?;
-    put_number(alloc, &mut table, "keepalive", u32::from(edge.keepalive))?;
-    put_number(alloc, &mut table, "first_label", edge.first_label)?;
-    let address = address_text(alloc, edge.address)?;
-    put_text(alloc, &mut table, "address", address.as_str())?;
-    put_text(alloc, &mut table, "name", name_text(&edge.name))?;
-    Ok(table)
+impl PlanRow for EdgePlan {
+    ghost use Rattle.migration.specs.Rows.{edge_table};
+    ghost use Rattle.std.specs.Prelude.{Unit};
+
+    ghost table_of = { λ plan edge. edge_table edge };
+
+    ghost is_sayable = { λ edge. Unit };
+
+    #[tactic(auto, unfolding(crate::specs::Rows::edge_table))]
+    fn keys(&self, alloc: Global, _plan: &Plan) -> Result<Table, NoMemory> {
+        let mut table = no_keys(alloc);
+        put_number(alloc, &mut table, "max_pdu", u32::from(self.max_pdu))?;
+        put_number(alloc, &mut table, "keepalive", u32::from(self.keepalive))?;
+        put_number(alloc, &mut table, "first_label", self.first_label)?;
+        let address = Ipv4Addr::from(self.address.0).to_string(alloc)?;
+        put_text(alloc, &mut table, "address", address.as_str())?;
+        put_text(alloc, &mut table, "name", name_text(&self.name))?;
+        Ok(table)
+    }
 }
 
-// The table of a service.
-#[tactic(auto, unfolding(crate::specs::Rows::service_table))]
-fn service_keys(alloc: Global, service: &ServicePlan) -> Result<Table, NoMemory>
-    ensures { IfOk result (λ t. table_view t ≡ service_table service.now) }
-{
-    let mut table = no_keys(alloc);
-    put_number(alloc, &mut table, "age", service.age)?;
-    put_number(alloc, &mut table, "mtu", u32::from(service.mtu))?;
-    put_text(alloc, &mut table, "name", name_text(&service.name))?;
-    Ok(table)
+impl PlanRow for ServicePlan {
+    ghost use Rattle.migration.specs.Rows.{service_table};
+    ghost use Rattle.std.specs.Prelude.{Unit};
+
+    ghost table_of = { λ plan service. service_table service };
+
+    ghost is_sayable = { λ service. Unit };
+
+    #[tactic(auto, unfolding(crate::specs::Rows::service_table))]
+    fn keys(&self, alloc: Global, _plan: &Plan) -> Result<Table, NoMemory> {
+        let mut table = no_keys(alloc);
+        put_number(alloc, &mut table, "age", self.age)?;
+        put_number(alloc, &mut table, "mtu", u32::from(self.mtu))?;
+        put_text(alloc, &mut table, "name", name_text(&self.name))?;
+        Ok(table)
+    }
 }
 
-// The table of a group.
-#[tactic(auto, unfolding(crate::specs::Rows::group_table))]
-fn group_keys(alloc: Global, group: u32) -> Result<Table, NoMemory>
-    ensures { IfOk result (λ t. table_view t ≡ group_table group) }
-{
-    let mut table = no_keys(alloc);
-    put_number(alloc, &mut table, "number", group)?;
-    let name = group_text(alloc, group)?;
-    put_text(alloc, &mut table, "name", name.as_str())?;
-    Ok(table)
+/// A group, by its number.
+impl PlanRow for u32 {
+    ghost use Rattle.migration.specs.Rows.{group_table};
+    ghost use Rattle.std.specs.Prelude.{Unit};
+
+    ghost table_of = { λ plan group. group_table group };
+
+    ghost is_sayable = { λ group. Unit };
+
+    #[tactic(auto, unfolding(crate::specs::Rows::group_table))]
+    fn keys(&self, alloc: Global, _plan: &Plan) -> Result<Table, NoMemory> {
+        let mut table = no_keys(alloc);
+        put_number(alloc, &mut table, "number", *self)?;
+        let name = group_text(alloc, *self)?;
+        put_text(alloc, &mut table, "name", name.as_str())?;
+        Ok(table)
+    }
 }
 
-// The table of a circuit.
-#[tactic(auto, unfolding(crate::specs::Rows::circuit_table))]
-fn circuit_keys(alloc: Global, plan: &Plan, circuit: &CircuitPlan) -> Result<Table, NoMemory>
-    ensures { IfOk result (λ t. table_view t ≡ circuit_table plan.now circuit.now) }
-{
-    let mut table = no_keys(alloc);
-    put_told(alloc, &mut table, "tag", wide(circuit.tag))?;
-    put_text(
-        alloc,
-        &mut table,
-        "service",
-        service_text(plan, circuit.service),
-    )?;
-    put_text(alloc, &mut table, "edge", edge_text(plan, circuit.edge))?;
-    put_text(alloc, &mut table, "name", name_text(&circuit.name))?;
-    Ok(table)
+impl PlanRow for CircuitPlan {
+    ghost use Rattle.migration.specs.Rows.{circuit_table};
+    ghost use Rattle.std.specs.Prelude.{Unit};
+
+    ghost table_of = { circuit_table };
+
+    ghost is_sayable = { λ circuit. Unit };
+
+    #[tactic(auto, unfolding(crate::specs::Rows::circuit_table))]
+    fn keys(&self, alloc: Global, plan: &Plan) -> Result<Table, NoMemory> {
+        let mut table = no_keys(alloc);
+        put_told(alloc, &mut table, "tag", wide(self.tag))?;
+        put_text(
+            alloc,
+            &mut table,
+            "service",
+            service_text(plan, self.service),
+        )?;
+        put_text(alloc, &mut table, "edge", edge_text(plan, self.edge))?;
+        put_text(alloc, &mut table, "name", name_text(&self.name))?;
+        Ok(table)
+    }
 }
 
 // The names of the edges of a path.
@@ -105,86 +139,39 @@ fn ends_keys(alloc: Global, wire: &WirePlan) -> Result<Table, NoMemory>
     Ok(table)
 }
 
-// The table of a wire.
-#[tactic(auto, unfolding(crate::specs::Rows::wire_table))]
-fn wire_keys(alloc: Global, plan: &Plan, wire: &WirePlan) -> Result<Table, NoMemory>
-    requires { HasTexts wire.now }
-    ensures { IfOk result (λ t. table_view t ≡ wire_table plan.now wire.now) }
-{
-    let mut table = ends_keys(alloc, wire)?;
-    let path = path_items(alloc, plan, wire.path.as_slice())?;
-    put_array(alloc, &mut table, "path", path)?;
-    put_text(alloc, &mut table, "class", class_text(wire.class))?;
-    put_text(
-        alloc,
-        &mut table,
-        "service",
-        service_text(plan, wire.service),
-    )?;
-    put_text(alloc, &mut table, "name", name_text(&wire.name))?;
-    Ok(table)
-}
+impl PlanRow for WirePlan {
+    ghost use Rattle.migration.specs.Rows.{wire_table};
+    ghost use Rattle.migration.specs.Sayable.{HasTexts};
 
-/// The rows of edges.
-pub fn edge_rows(alloc: Global, edges: &[EdgePlan]) -> Result<Vec<Value>, NoMemory>
-    ensures { IfOk result (λ rows. map view rows.items ≡ map (λ edge. table (edge_table edge)) edges.now) }
-{
-    let mut rows = Vec::with_capacity(alloc, edges.len())?;
-    for edge in edges {
-        let row = edge_keys(alloc, edge)?;
-        push_table(&mut rows, row)?;
+    ghost table_of = { wire_table };
+
+    ghost is_sayable = { HasTexts };
+
+    #[tactic(auto, unfolding(crate::specs::Rows::wire_table))]
+    fn keys(&self, alloc: Global, plan: &Plan) -> Result<Table, NoMemory> {
+        let mut table = ends_keys(alloc, self)?;
+        let path = path_items(alloc, plan, self.path.as_slice())?;
+        put_array(alloc, &mut table, "path", path)?;
+        put_text(alloc, &mut table, "class", class_text(self.class))?;
+        put_text(
+            alloc,
+            &mut table,
+            "service",
+            service_text(plan, self.service),
+        )?;
+        put_text(alloc, &mut table, "name", name_text(&self.name))?;
+        Ok(table)
     }
-    Ok(rows)
 }
 
-/// The rows of services.
-pub fn service_rows(alloc: Global, services: &[ServicePlan]) -> Result<Vec<Value>, NoMemory>
-    ensures { IfOk result (λ rows. map view rows.items ≡ map (λ service. table (service_table service)) services.now) }
+/// The tables of rows of a plan.
+pub fn rows<T: PlanRow>(alloc: Global, plan: &Plan, items: &[T]) -> Result<Vec<Value>, NoMemory>
+    requires { All T.is_sayable items.now }
+    ensures { IfOk result (λ rows. map view rows.items ≡ map (λ item. table (T.table_of plan.now item)) items.now) }
 {
-    let mut rows = Vec::with_capacity(alloc, services.len())?;
-    for service in services {
-        let row = service_keys(alloc, service)?;
-        push_table(&mut rows, row)?;
-    }
-    Ok(rows)
-}
-
-/// The rows of groups.
-pub fn group_rows(alloc: Global, groups: &[u32]) -> Result<Vec<Value>, NoMemory>
-    ensures { IfOk result (λ rows. map view rows.items ≡ map (λ group. table (group_table group)) groups.now) }
-{
-    let mut rows = Vec::with_capacity(alloc, groups.len())?;
-    for group in groups {
-        let row = group_keys(alloc, *group)?;
-        push_table(&mut rows, row)?;
-    }
-    Ok(rows)
-}
-
-/// The rows of circuits of a plan.
-pub fn circuit_rows(
-    alloc: Global,
-    plan: &Plan,
-    circuits: &[CircuitPlan],
-) -> Result<Vec<Value>, NoMemory>
-    ensures { IfOk result (λ rows. map view rows.items ≡ map (λ circuit. table (circuit_table plan.now circuit)) circuits.now) }
-{
-    let mut rows = Vec::with_capacity(alloc, circuits.len())?;
-    for circuit in circuits {
-        let row = circuit_keys(alloc, plan, circuit)?;
-        push_table(&mut rows, row)?;
-    }
-    Ok(rows)
-}
-
-/// The rows of wires of a plan.
-pub fn wire_rows(alloc: Global, plan: &Plan, wires: &[WirePlan]) -> Result<Vec<Value>, NoMemory>
-    requires { All HasTexts wires.now }
-    ensures { IfOk result (λ rows. map view rows.items ≡ map (λ wire. table (wire_table plan.now wire)) wires.now) }
-{
-    let mut rows = Vec::with_capacity(alloc, wires.len())?;
-    for wire in wires {
-        let row = wire_keys(alloc, plan, wire)?;
+    let mut rows = Vec::with_capacity(alloc, items.len())?;
+    for item in items {
+        let row = item.keys(alloc, plan)?;
         push_table(&mut rows, row)?;
     }
     Ok(rows)

@@ -125,21 +125,14 @@ impl PeerEnd {
     fn cut_first(&mut self) -> bool
         ensures { CutsFirst result self.old self.new }
     {
-        let length = whole_pdu(self.held());
+        let (taken, _) = self.octets.as_slice().split_at(self.taken);
+        let (_, held) = taken.split_at(self.cut);
+        let length = whole_pdu(held);
         if length == 0 {
             return false;
         }
         self.cut += length;
         true
-    }
-
-    // What is held.
-    fn held(&self) -> &[u8]
-        ensures held { result.now ≡ self.now.rest }
-    {
-        let (taken, _) = self.octets.as_slice().split_at(self.taken);
-        let (_, held) = taken.split_at(self.cut);
-        held
     }
 
     // Octets that are all cut off are dropped.

@@ -29,7 +29,7 @@ impl SeenEdge {
         ensures up { IfOk result (λ edge. edge.up ≡ replicate wires false) }
     {
         let ends = new_ends(alloc, edges)?;
-        let up = none_up(alloc, wires)?;
+        let up = vec![in alloc; false; wires]?;
         Ok(SeenEdge { ends, up })
     }
 
@@ -81,16 +81,4 @@ fn new_ends(alloc: Global, count: usize) -> Result<Vec<PeerEnd>, NoMemory>
         ends.push(PeerEnd::new(alloc))?;
     }
     Ok(ends)
-}
-
-// So many wires of which none is up.
-#[tactic(auto, using(crate::proofs::RowLemmas::replicate_steps))]
-fn none_up(alloc: Global, count: usize) -> Result<Vec<bool>, NoMemory>
-    ensures { IfOk result (λ up. up.items ≡ replicate count false) }
-{
-    let mut up = Vec::new(alloc);
-    for _wire in 0..count {
-        up.push(false)?;
-    }
-    Ok(up)
 }

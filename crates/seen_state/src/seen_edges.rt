@@ -235,7 +235,7 @@ impl SeenEdges {
             circuits: plan.circuits.len(),
         };
         let edges = new_edges(alloc, sizes.edges, sizes.wires)?;
-        let on = all_on(alloc, sizes.circuits)?;
+        let on = vec![in alloc; true; sizes.circuits]?;
         Ok(SeenEdges { sizes, edges, on })
     }
 }
@@ -250,16 +250,4 @@ fn new_edges(alloc: Global, count: usize, wires: usize) -> Result<Vec<SeenEdge>,
         edges.push(SeenEdge::new(alloc, count, wires)?)?;
     }
     Ok(edges)
-}
-
-// So many circuits, all of them on.
-#[tactic(auto, using(crate::proofs::RowLemmas::replicate_steps))]
-fn all_on(alloc: Global, count: usize) -> Result<Vec<bool>, NoMemory>
-    ensures { IfOk result (λ on. on.items ≡ replicate count true) }
-{
-    let mut on = Vec::new(alloc);
-    for _circuit in 0..count {
-        on.push(true)?;
-    }
-    Ok(on)
 }

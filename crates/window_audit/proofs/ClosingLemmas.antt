@@ -12,29 +12,6 @@ use Rattle.seen_network.specs.declared.window.Window.{Window}
 use Rattle.window_audit.specs.OpenWindows.{ClosesOne, HasClosed, is_one_of, are_copies_over}
 use Rattle.window_audit.proofs.OpenWindowsLemmas.{among_either, among_filter, among_left, among_right, from_filter}
 
-none_over : (gone : ℕ → Bool) (flooded : Window → Bool) (old new : ℕ → List Window) (owed : List Window) → ((q : ℕ) → gone q ≡ false) → ((q : ℕ) → new q ≡ old q)
-    → HasClosed gone flooded old new owed owed
-none_over gone flooded old new owed none same = record {
-  left = λ q. same q ∙ ap (λ (b : Bool). cond b [] (old q)) (sym (none q));
-  kept = λ w h. h;
-  closes = λ w one. absurd (cc (sym (none one.origin) ∙ one.over));
-  closed = λ w h. inl h;
-}
-
--- no frame at all
-pub closed_none : (seen : Seen) (flooded : Window → Bool) (old : ℕ → List Window) (owed : List Window) → HasClosed (are_copies_over seen []) flooded old old owed owed
-closed_none seen flooded old owed = none_over (are_copies_over seen []) flooded old old owed (λ q. refl) (λ q. refl)
-
--- a frame of which a copy is under way
-pub closed_not : (seen : Seen) (origin : ℕ) (flooded : Window → Bool) (old : ℕ → List Window) (owed : List Window) → has_seen seen origin ≡ true
-    → HasClosed (are_copies_over seen (origin ∷ [])) flooded old old owed owed
-closed_not seen origin flooded old owed has = none_over (are_copies_over seen (origin ∷ [])) flooded old old owed none (λ q. refl) where
-  none : (q : ℕ) → are_copies_over seen (origin ∷ []) q ≡ false
-  none q = by (origin == q) refl where
-    by : (b : Bool) → (origin == q) ≡ b → (b || false) && not (has_seen seen q) ≡ false
-    by true at = ap (λ (o : ℕ). not (has_seen seen o)) (sym (eqb-true origin q at)) ∙ ap not has
-    by false away = refl
-
 -- a frame of which none is
 pub closed_one : (seen : Seen) (origin : ℕ) (flooded : Window → Bool) (old new : ℕ → List Window) (owed owed2 : List Window) → has_seen seen origin ≡ false
     → ((q : ℕ) → new q ≡ cond (q == origin) [] (old q))

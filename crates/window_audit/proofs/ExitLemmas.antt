@@ -6,35 +6,17 @@ use Rattle.std.specs.List.{list_any}
 use Rattle.net_values.proofs.BoolLemmas.{first_fails, or_none}
 use Rattle.net_values.proofs.NumberLemmas.{equal_turned, is_none}
 use Rattle.hvpls_spokes.specs.PortSet.{holds_port}
-use Rattle.net_base.specs.declared.plan.Plan.{Plan}
 use Rattle.net_base.specs.declared.plan.places.CircuitId.{CircuitId}
 use Rattle.net_base.specs.declared.trace.entry.Entry.{Entry}
 use Rattle.net_base.specs.declared.trace.entry.Entry.TheVariants as entry
-use Rattle.net_base.specs.plan.Accepted.{IsWithinLimits}
 use Rattle.seen_network.specs.Once.{times_seen}
 use Rattle.seen_state.specs.Numbered.{Values, no_values, value_at}
-use Rattle.seen_state.specs.Placed.{IsPlaced}
-use Rattle.window_audit.specs.Exits.{AreApart, ExitLists, HasExits, HasLeft, IsAtPort, LeftTwice, has_left, is_again, is_far, leavings_of, left_far, row_at}
+use Rattle.window_audit.specs.Exits.{AreApart, ExitLists, HasExits, HasLeft, LeftTwice, has_left, is_again, is_far, leavings_of, left_far, row_at}
 use Rattle.window_audit.specs.declared.leavings.Leavings.{Leavings}
 use Rattle.window_audit.proofs.SourceLemmas.{any_more}
 
 pub none_left : HasExits (record { places = no_values; rows = [] }) []
 none_left = record { at = λ o c. refl; beyond = λ o c h. refl; once = λ o h c. omega arith; again = λ o h. absurd (grind (arith, h)); far = λ o. refl }
-
--- an entry of a plan within the limits
-pub at_port : (plan : Plan) (e : Entry) → IsWithinLimits plan → IsPlaced plan e → IsAtPort e
-at_port plan (entry.Left at from hops octets) limits placed = omega (arith, limits.circuits, placed)
-at_port plan (entry.Did event) limits placed = tt
-at_port plan entry.Idle limits placed = tt
-at_port plan (entry.Said from to octets) limits placed = tt
-at_port plan (entry.In at number octets) limits placed = tt
-at_port plan (entry.Sent from to wire came packet from2 hops octets) limits placed = tt
-at_port plan (entry.Copied packet of) limits placed = tt
-at_port plan (entry.Aged packet) limits placed = tt
-at_port plan (entry.Dropped edge from cause) limits placed = tt
-at_port plan (entry.Session edge peer name) limits placed = tt
-at_port plan (entry.Wire edge wire down) limits placed = tt
-at_port plan (entry.Pong edge wire sequence) limits placed = tt
 
 -- what has the same places has the same exits
 pub exits_kept : (old new : Values ℕ) (rows : List Leavings) (trace : List Entry) → ((n : ℕ) → value_at new n ≡ value_at old n) → HasExits (record { places = old; rows = rows }) trace

@@ -48,10 +48,6 @@ from_filter t w (x ∷ xs) h = by (t x) refl h (from_filter t w xs) where
   by true holds (inr h) rest = (inr (rest h).0, (rest h).1)
   by false fails h rest = (inr (rest h).0, (rest h).1)
 
-none_in : (b : Bool) (w : Window) (xs : List Window) → AmongWindows w (cond b xs []) → b ≡ true
-none_in true w xs h = refl
-none_in false w xs h = absurd h
-
 -- ---- one event more
 
 abbrev pub one_list : Option Window → List Window

@@ -13,7 +13,7 @@ use Rattle.seen_network.specs.Windows.{Describes, HasOpened, IsOpened, Opens, Op
 use Rattle.seen_network.specs.declared.window.Window.{Window}
 use Rattle.window_audit.specs.During.{IsFirst}
 use Rattle.window_audit.specs.Opening.{OpensWith, window_with}
-use Rattle.window_audit.specs.WindowState.{FrameOpens, IsFirstOf, placed_behind}
+use Rattle.window_audit.specs.WindowState.{FrameOpens, placed_behind}
 use Rattle.window_audit.specs.declared.opening.Opening.{Opening}
 
 -- the entry stands among them
@@ -38,15 +38,6 @@ place_within circuit (entry.Wire edge wire down ∷ es) = omega (arith, place_wi
 place_within circuit (entry.Pong edge wire sequence ∷ es) = omega (arith, place_within circuit es)
 
 -- ---- a frame at a circuit
-
--- no window opens where no frame entered
-pub none_entered : (plan : Plan) (before : List Entry) (event : Event) (rest : List Entry) (first : Option (ℕ × ℕ)) → IsFirstOf event rest first
-    → None ≡ option_map (placed_behind (length before)) first → IsOpened plan before event rest None
-none_entered plan before event rest None first none = record {
-  only = λ w is. absurd (cc (is));
-  each = λ circuit octets service origin is opened. absurd (cc ((first circuit octets is).number ∙ opened.entered));
-}
-none_entered plan before event rest (Some found) first none = absurd (cc (none))
 
 -- or where nothing opens one
 pub with_opens : (plan : Plan) (before : List Entry) (circuit : CircuitId) (octets : List ℕ) (rest : List Entry) (entered : ℕ × ℕ) (first : Option (ℕ × ℕ)) (opening : Option Opening)

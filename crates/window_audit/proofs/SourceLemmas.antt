@@ -1,8 +1,5 @@
 -- Sources of frames, one frame after the other.
-use Rattle.std.proofs.Common.{Ordering, ◌≡◌, ◌==◌, ◌<◌, ◌&&◌, ◌||◌, ◌++◌, ◌∷◌, ◌∙◌, [], ℕ, Bool, true, false, List, Option, Some, None, cond, nat_lt, refl, ap, ap₂, sym, arith, length, drop}
-use Rattle.std.proofs.lemmas.List.{length-drop, length-take}
-use Rattle.std.proofs.lemmas.Slice.Eq.{bytes_eq-Decides}
-use Rattle.std.proofs.lemmas.Bool.{and_right}
+use Rattle.std.proofs.Common.{Ordering, ◌≡◌, ◌==◌, ◌&&◌, ◌||◌, ◌++◌, ◌∷◌, ◌∙◌, [], ℕ, Bool, true, false, List, cond, nat_lt, refl, ap, ap₂, sym}
 use Rattle.std.proofs.lemmas.Map.Text.{is_eq-slice_cmp}
 use Rattle.std.specs.BTreeMap.{is_at}
 use Rattle.std.specs.Cmp.Lexicographic.{slice_cmp}
@@ -12,15 +9,12 @@ use Rattle.net_values.proofs.NumberLemmas.{less_apart}
 use Rattle.std.specs.List.{list_any}
 use Rattle.std.specs.Str.{bytes_eq}
 use Rattle.net_base.specs.declared.plan.Plan.{Plan}
-use Rattle.net_base.specs.declared.plan.circuit_plan.CircuitPlan.{CircuitPlan}
 use Rattle.net_base.specs.declared.plan.places.CircuitId.{CircuitId}
 use Rattle.net_base.specs.declared.plan.places.ServiceId.{ServiceId}
 use Rattle.net_base.specs.declared.trace.entry.Entry.{Entry}
 use Rattle.net_base.specs.declared.trace.entry.Entry.TheVariants.{In}
-use Rattle.net_base.specs.plan.Places.{circuit_row}
-use Rattle.net_base.specs.trace.Frame.{source_of}
 use Rattle.net_values.specs.declared.mac.Mac.{Mac}
-use Rattle.seen_network.specs.Once.{is_circuit_row_of, is_sourced_by}
+use Rattle.seen_network.specs.Once.{is_sourced_by}
 use Rattle.window_audit.specs.Sources.{HasEnteredOnce, HasSources, comes_from, has_source}
 use Rattle.window_audit.specs.declared.source.Source.{Source}
 
@@ -33,13 +27,6 @@ any_more test (x ∷ xs) e = by (test x) (any_more test xs e) where
   by : (b : Bool) → list_any test (xs ++ e ∷ []) ≡ list_any test xs || test e → b || list_any test (xs ++ e ∷ []) ≡ (b || list_any test xs) || test e
   by true is = refl
   by false is = is
-
--- a frame of fewer than twelve octets has no whole source address
-short_source : (octets address : List ℕ) → length octets < 12 → length address ≡ 6 → bytes_eq (source_of octets) address ≡ false
-short_source octets address few six = by (bytes_eq (source_of octets) address) refl where
-  by : (b : Bool) → bytes_eq (source_of octets) address ≡ b → b ≡ false
-  by false is = refl
-  by true is = absurd (omega (arith, few, six, ap length ((bytes_eq-Decides (source_of octets) address).0 is), length-take 6 (drop 6 octets), length-drop 6 octets))
 
 or_false : (b c : Bool) → c ≡ false → b ≡ b || c
 or_false true c is = refl
@@ -78,30 +65,6 @@ pub put_one : (old new : List Source) (s : Source)
 put_one old new s put other address =
     let q : Source = record { service = other.0; address = address } in
     sym (found_source new q) ∙ (put q ∙ ap₂ (λ (a b : Bool). cond a true b) (source_at s q) (found_source old q))
-
-pub entered_short : (plan : Plan) (circuit : CircuitId) (octets : List ℕ) (sources : List Source) → length octets < 12 → HasEnteredOnce plan circuit octets sources sources
-entered_short plan circuit octets sources few = λ service address six.
-    or_false (has_source sources service.0 address.0) (comes_from plan circuit octets service address.0)
-    (and_right (is_circuit_row_of service (circuit_row plan circuit)) (bytes_eq (source_of octets) address.0) (short_source octets address.0 few six))
-
-pub entered_nowhere : (plan : Plan) (circuit : CircuitId) (octets : List ℕ) (sources : List Source) → circuit_row plan circuit ≡ None → HasEnteredOnce plan circuit octets sources sources
-entered_nowhere plan circuit octets sources none = λ service address six.
-    or_false (has_source sources service.0 address.0) (comes_from plan circuit octets service address.0)
-    (ap (λ (row : Option CircuitPlan). is_circuit_row_of service row && bytes_eq (source_of octets) address.0) none)
-
-pub entered_one : (plan : Plan) (circuit : CircuitId) (octets : List ℕ) (row : CircuitPlan) (from : Mac) (old new : List Source) → circuit_row plan circuit ≡ Some row → from.0 ≡ source_of octets
-    → ((other : ServiceId) (address : Mac) → has_source new other.0 address.0 ≡ cond (row.service.0 == other.0 && bytes_eq from.0 address.0) true (has_source old other.0 address.0))
-    → HasEnteredOnce plan circuit octets old new
-entered_one plan circuit octets row from old new is same put = λ service address six.
-    put service address
-    ∙ (ap (λ (octets : List ℕ). cond (row.service.0 == service.0 && bytes_eq octets address.0) true (has_source old service.0 address.0)) same
-    ∙ (turn (row.service.0 == service.0 && bytes_eq (source_of octets) address.0) (has_source old service.0 address.0)
-    ∙ ap (λ (r : Option CircuitPlan). has_source old service.0 address.0 || (is_circuit_row_of service r && bytes_eq (source_of octets) address.0)) (sym is))) where
-      turn : (a b : Bool) → cond a true b ≡ b || a
-      turn true true = refl
-      turn true false = refl
-      turn false true = refl
-      turn false false = refl
 
 pub told_in : (plan : Plan) (circuit : CircuitId) (number : ℕ) (octets : List ℕ) (old new : List Source) (trace : List Entry) → HasEnteredOnce plan circuit octets old new → HasSources plan old trace
     → HasSources plan new (trace ++ In circuit number octets ∷ [])

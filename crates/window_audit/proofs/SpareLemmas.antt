@@ -7,9 +7,6 @@ use Rattle.seen_state.specs.Copies.{CopyMaps, TellsPackets, is_number, origin_un
 use Rattle.seen_state.proofs.CopyLemmas.{seen_named}
 use Rattle.seen_network.specs.declared.window.Window.{Window}
 
-pub spared_idle : (seen : Seen) (origin packet : ℕ) (idle : Bool) (ws : List Window) → idle ≡ true → ws ≡ cond (idle || not (names_seen seen origin packet)) ws []
-spared_idle seen origin packet idle ws holds = ap (λ (b : Bool). cond (b || not (names_seen seen origin packet)) ws []) (sym holds)
-
 pub spoiled_none : (maps : CopyMaps) (seen : Seen) (origin packet : ℕ) (idle : Bool) (ws : List Window) → origin_under maps packet ≡ None → TellsPackets maps seen.under_way
     → ws ≡ cond (idle || not (names_seen seen origin packet)) ws []
 spoiled_none maps seen origin packet idle ws none tells = by idle where

@@ -26,11 +26,6 @@ pub record MayOpen (plan : Plan) (seen : Seen) (circuit : CircuitId) (octets : L
   pub formed : IsFormed plan circuit octets
   pub calm : is_seen_calm plan seen service ≡ true
 
--- the service, where it may
-abbrev pub OpensIn : Plan → Seen → CircuitId → List ℕ → Option ServiceId → Type 0
-OpensIn plan seen circuit octets None = (service : ServiceId) → MayOpen plan seen circuit octets service → ⊥
-OpensIn plan seen circuit octets (Some service) = MayOpen plan seen circuit octets service
-
 -- a frame that could be read
 abbrev pub is_good : Result (List ℕ) DropCause → Bool
 is_good (Ok frame) = true

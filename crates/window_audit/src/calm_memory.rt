@@ -1,12 +1,12 @@
 //! Which services are known to be calm.
-ghost use Rattle.std.specs.Prelude.{◌≡◌, ◌<◌, true, false};
+ghost use Rattle.std.specs.Prelude.{◌≡◌, ◌<◌};
 ghost use Rattle.hvpls_spokes.specs.PortSet.{holds_port};
 ghost use Rattle.net_base.specs.{declared.plan.Plan.{Plan as Planned}, plan.Accepted.{IsWithinLimits}};
 ghost use Rattle.seen_network.specs.{Calm.{is_seen_calm}, EventEntries.{HasNoEvent}, Seen.{Seen, happened_or, seen_from}};
 ghost use Rattle.seen_state.specs.SeenState.{Knows};
 ghost use Rattle.window_audit.specs.CalmMemory.{Remembers, some_stirs, stirs, stirs_by};
 
-use hvpls_spokes::PortSet;
+use hvpls_spokes::PortSet as PlaceSet;
 use net_base::{Entry, Event, Plan, ServiceId};
 use seen_state::SeenState;
 
@@ -14,8 +14,8 @@ use seen_state::SeenState;
 /// only when something was told that may change it: that takes a walk over all its edges and wires.
 #[derive(Clone, Copy)]
 pub struct CalmMemory {
-    pub calm: PortSet,
-    pub restless: PortSet,
+    pub calm: PlaceSet,
+    pub restless: PlaceSet,
 }
 
 impl CalmMemory {
@@ -24,8 +24,8 @@ impl CalmMemory {
         ensures { (plan : Planned) (seen : Seen) → Remembers plan seen result }
     {
         CalmMemory {
-            calm: PortSet::empty(),
-            restless: PortSet::empty(),
+            calm: PlaceSet::empty(),
+            restless: PlaceSet::empty(),
         }
     }
 
@@ -50,33 +50,16 @@ impl CalmMemory {
     }
 
     // Keeps whether a service is calm.
+    #[tactic(auto, using(crate::proofs::CalmLemmas::calm_kept, crate::proofs::CalmLemmas::restless_kept))]
     fn keep(&mut self, service: ServiceId, calm: bool)
         requires { service.0 < 512 }
         ensures { (plan : Planned) (seen : Seen) → calm ≡ is_seen_calm plan seen service → Remembers plan seen self.old → Remembers plan seen self.new }
     {
         if calm {
-            self.keep_calm(service);
+            self.calm.insert(service.0);
         } else {
-            self.keep_restless(service);
+            self.restless.insert(service.0);
         }
-    }
-
-    // A service is calm.
-    #[tactic(auto, using(crate::proofs::CalmLemmas::calm_kept))]
-    fn keep_calm(&mut self, service: ServiceId)
-        requires { service.0 < 512 }
-        ensures { (plan : Planned) (seen : Seen) → is_seen_calm plan seen service ≡ true → Remembers plan seen self.old → Remembers plan seen self.new }
-    {
-        self.calm.insert(service.0);
-    }
-
-    // A service is not.
-    #[tactic(auto, using(crate::proofs::CalmLemmas::restless_kept))]
-    fn keep_restless(&mut self, service: ServiceId)
-        requires { service.0 < 512 }
-        ensures { (plan : Planned) (seen : Seen) → is_seen_calm plan seen service ≡ false → Remembers plan seen self.old → Remembers plan seen self.new }
-    {
-        self.restless.insert(service.0);
     }
 
     // Nothing is known any more.

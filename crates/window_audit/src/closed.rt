@@ -55,22 +55,12 @@ fn owe_all(
     ensures { OnOk result ((plan : Plan) (trace : Items Entry) → HasSources plan sources.now trace → owed.new.items ≡ owed.old.items ++ filter (was_flooded plan trace) (with_first first others.now)) }
 {
     match first {
-        Some(window) => owe_both(owed, sources, &window, others),
+        Some(window) => {
+            owe_one(owed, sources, &window)?;
+            owe(owed, sources, others)
+        }
         None => owe(owed, sources, others),
     }
-}
-
-// The same, where there is a first one.
-fn owe_both(
-    owed: &mut Vec<Window>,
-    sources: &Sources,
-    first: &Window,
-    others: &[Window],
-) -> Result<(), NoMemory>
-    ensures { OnOk result ((plan : Plan) (trace : Items Entry) → HasSources plan sources.now trace → owed.new.items ≡ owed.old.items ++ filter (was_flooded plan trace) (first.now ∷ others.now)) }
-{
-    owe_one(owed, sources, first)?;
-    owe(owed, sources, others)
 }
 
 // Of these windows those are owed that were flooded.

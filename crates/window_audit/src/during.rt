@@ -82,7 +82,7 @@ impl During {
         ensures first { self.new.first ≡ first_or self.old.first self.old.event entry.now self.old.count }
         ensures kept { self.new.kept.items ≡ self.old.kept.items }
     {
-        self.idle = self.idle || is_idle(entry);
+        self.idle = self.idle || matches!(*entry, Entry::Idle);
         if self.first.is_none() {
             self.first = self.entered(entry);
         }
@@ -115,12 +115,6 @@ impl During {
             Err(_) => Err(NoMemory),
         }
     }
-}
-
-fn is_idle(entry: &Entry) -> bool
-    ensures { result ≡ is_idle_entry entry.now }
-{
-    matches!(*entry, Entry::Idle)
 }
 
 // The number under which a frame entered at the circuit by the entry.

@@ -47,19 +47,12 @@ impl Exits {
         ensures again { result.again ≡ is_again (leavings_of self.now origin) }
         ensures far { result.far ≡ is_far (leavings_of self.now origin) }
     {
-        match self.found(origin) {
-            Some(leavings) => leavings,
+        let Some(place) = self.places.get(origin) else {
+            return Leavings::none();
+        };
+        match self.rows.get(place as usize) {
+            Some(leavings) => *leavings,
             None => Leavings::none(),
-        }
-    }
-
-    // The same; `None` where none left.
-    fn found(&self, origin: u64) -> Option<Leavings>
-        ensures { result ≡ leavings_of self.now origin }
-    {
-        match self.places.get(origin) {
-            Some(place) => self.rows.get(place as usize).copied(),
-            None => None,
         }
     }
 
@@ -98,7 +91,7 @@ impl Exits {
     }
 
     // A copy of a frame left.
-    #[tactic(auto, using(crate::proofs::ExitLemmas::left_once))]
+    #[tactic(auto, using(crate::proofs::ExitLemmas::row_changed, crate::proofs::ExitLemmas::left_once))]
     fn leave(&mut self, circuit: CircuitId, origin: u64, hops: u64) -> Result<(), NoMemory>
         requires { circuit.0 < 512 }
         ensures { OnOk result (HasLeft circuit origin hops self.old self.new) }
@@ -107,20 +100,11 @@ impl Exits {
         leavings.leave(circuit.0, hops);
         match self.places.get(origin) {
             Some(place) => {
-                self.change(origin, place, leavings);
+                self.rows[place as usize] = leavings;
                 Ok(())
             }
             None => self.add(origin, leavings),
         }
-    }
-
-    // A frame of which copies left before.
-    #[tactic(auto, using(crate::proofs::ExitLemmas::row_changed))]
-    fn change(&mut self, origin: u64, place: u64, leavings: Leavings)
-        requires { value_at self.old.places origin ≡ Some place }
-        ensures { (n : ℕ) → leavings_of self.new n ≡ (if n == origin then Some leavings else leavings_of self.old n) }
-    {
-        self.rows[place as usize] = leavings;
     }
 
     // A frame of which none left before.

@@ -2,13 +2,13 @@
 ghost use Rattle.std.specs.Prelude.{◌≡◌, ◌≢◌, ◌<◌, ◌||◌, ℕ, true, false, nat_lt};
 ghost use Rattle.hvpls_spokes.specs.PortSet.{holds_port};
 
-use hvpls_spokes::PortSet;
+use hvpls_spokes::PortSet as PlaceSet;
 
 /// Where the copies of one frame left.
 #[derive(Clone, Copy)]
 pub struct Leavings {
     /// The circuits at which one left, by their places.
-    pub at: PortSet,
+    pub at: PlaceSet,
     /// Whether two left at one circuit.
     pub again: bool,
     /// Whether one had passed more than twelve segments.
@@ -23,7 +23,7 @@ impl Leavings {
         ensures far { result.far ≡ false }
     {
         Leavings {
-            at: PortSet::empty(),
+            at: PlaceSet::empty(),
             again: false,
             far: false,
         }

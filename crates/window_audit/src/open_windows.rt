@@ -1,5 +1,5 @@
 //! The windows that are open yet.
-ghost use Rattle.std.specs.Prelude.{◌≡◌, ◌==◌, ◌++◌, ◌∷◌, [], ℕ, true, OnOk, if◌then◌else◌};
+ghost use Rattle.std.specs.Prelude.{◌≡◌, ◌==◌, ◌++◌, ◌∷◌, [], ℕ, OnOk, if◌then◌else◌};
 ghost use Rattle.window_audit.specs.OpenWindows.{others_at, windows_at, with_first};
 
 use crate::taken::Taken;
@@ -41,31 +41,14 @@ impl OpenWindows {
     }
 
     /// A window opens.
+    #[tactic(auto, using(crate::proofs::OpenLemmas::none_open, crate::proofs::OpenLemmas::first_put))]
     pub fn add(&mut self, window: Window) -> Result<(), NoMemory>
         ensures { OnOk result ((origin : ℕ) → windows_at self.new origin ≡ (if origin == window.origin then windows_at self.old origin ++ window ∷ [] else windows_at self.old origin)) }
     {
-        if self.has_none(window.origin) {
-            self.put_first(window)
-        } else {
-            self.put_behind(window)
+        if self.others.is_empty() && self.firsts.get(window.origin).is_none() {
+            return self.firsts.put(window.origin, window);
         }
-    }
-
-    // Whether a frame is seen to have no window that is open.
-    #[tactic(auto, using(crate::proofs::OpenLemmas::none_open))]
-    fn has_none(&self, origin: u64) -> bool
-        ensures { result ≡ true → windows_at self.now origin ≡ [] }
-    {
-        self.others.is_empty() && self.firsts.get(origin).is_none()
-    }
-
-    // The first window of a frame opens.
-    #[tactic(auto, using(crate::proofs::OpenLemmas::first_put))]
-    fn put_first(&mut self, window: Window) -> Result<(), NoMemory>
-        requires { windows_at self.old window.origin ≡ [] }
-        ensures { OnOk result ((origin : ℕ) → windows_at self.new origin ≡ (if origin == window.origin then windows_at self.old origin ++ window ∷ [] else windows_at self.old origin)) }
-    {
-        self.firsts.put(window.origin, window)
+        self.put_behind(window)
     }
 
     // A window opens behind those of its frame.
@@ -76,7 +59,10 @@ impl OpenWindows {
         let origin = window.origin;
         let mut windows = self.take_others(origin);
         windows.push(window)?;
-        self.put_others(origin, windows)
+        match self.others.insert(origin, windows) {
+            Ok(_) => Ok(()),
+            Err(_) => Err(NoMemory),
+        }
     }
 
     /// Takes the windows of a frame out.
@@ -99,17 +85,6 @@ impl OpenWindows {
         match self.others.remove(&origin) {
             Some(windows) => windows,
             None => List::new(self.alloc),
-        }
-    }
-
-    // A frame has these windows behind its first one from now on.
-    fn put_others(&mut self, origin: u64, windows: List<Window>) -> Result<(), NoMemory>
-        ensures firsts { self.new.firsts ≡ self.old.firsts }
-        ensures others { OnOk result ((other : ℕ) → others_at self.new.others other ≡ (if other == origin then windows else others_at self.old.others other)) }
-    {
-        match self.others.insert(origin, windows) {
-            Ok(_) => Ok(()),
-            Err(_) => Err(NoMemory),
         }
     }
 

@@ -3,12 +3,12 @@ ghost use Rattle.std.specs.Prelude.{◌≡◌, ◌≤◌, ◌==◌, ◌&&◌, no
 ghost use Rattle.net_base.specs.{plan.Accepted.{IsWithinLimits}, trace.Isolated.{inner_at}};
 ghost use Rattle.seen_network.specs.{Seen.{Seen}, Windows.{GoesTo}};
 ghost use Rattle.seen_state.specs.SeenState.{Knows};
-ghost use Rattle.window_audit.specs.{CalmMemory.{Remembers}, Opening.{AreSites, OpensIn, OpensWith, is_good}};
+ghost use Rattle.window_audit.specs.{CalmMemory.{Remembers}, Opening.{AreSites, OpensWith, is_good}};
 
 use crate::address::address_at;
 use crate::calm_memory::CalmMemory;
 use eth_encap::inner_at;
-use hvpls_spokes::PortSet;
+use hvpls_spokes::PortSet as PlaceSet;
 use net_base::{CircuitId, CircuitPlan, Plan, ServiceId};
 use net_values::Mac;
 use seen_state::SeenState;
@@ -20,7 +20,7 @@ pub struct Opening {
     /// Where it goes; `None` for a frame to a group.
     pub destination: Option<Mac>,
     /// The circuits at which it has to leave, by their places.
-    pub sites: PortSet,
+    pub sites: PlaceSet,
 }
 
 /// What is known of a frame that is put at a circuit: the circuit is on, the frame has no fault, and the service is seen calm. `None`
@@ -36,31 +36,6 @@ pub(crate) fn open_at(
     ensures opens { (seen : Seen) → Knows state.now seen → Remembers plan.now seen calm.old → OpensWith plan.now seen circuit octets.now result }
     ensures remembers { (seen : Seen) → Knows state.now seen → Remembers plan.now seen calm.old → Remembers plan.now seen calm.new }
 {
-    let Some(service) = may_open(state, calm, plan, circuit, octets) else {
-        return None;
-    };
-    if octets.len() < 6 {
-        return None;
-    }
-    Some(Opening {
-        service,
-        destination: destination(octets),
-        sites: sites(state, plan, service, circuit),
-    })
-}
-
-// The service in which a frame may open a window.
-fn may_open(
-    state: &SeenState,
-    calm: &mut CalmMemory,
-    plan: &Plan,
-    circuit: CircuitId,
-    octets: &[u8],
-) -> Option<ServiceId>
-    requires { IsWithinLimits plan.now }
-    ensures opens { (seen : Seen) → Knows state.now seen → Remembers plan.now seen calm.old → OpensIn plan.now seen circuit octets.now result }
-    ensures remembers { (seen : Seen) → Knows state.now seen → Remembers plan.now seen calm.old → Remembers plan.now seen calm.new }
-{
     let Some(row) = plan.circuits.get(circuit.0 as usize) else {
         return None;
     };
@@ -73,7 +48,14 @@ fn may_open(
     if !calm.is_calm(state, plan, row.service) {
         return None;
     }
-    Some(row.service)
+    if octets.len() < 6 {
+        return None;
+    }
+    Some(Opening {
+        service: row.service,
+        destination: destination(octets),
+        sites: sites(state, plan, row.service, circuit),
+    })
 }
 
 // Whether a frame has no fault.
@@ -101,11 +83,11 @@ fn destination(octets: &[u8]) -> Option<Mac>
 }
 
 // The circuits of the service that are on, but for the sender.
-fn sites(state: &SeenState, plan: &Plan, service: ServiceId, sender: CircuitId) -> PortSet
+fn sites(state: &SeenState, plan: &Plan, service: ServiceId, sender: CircuitId) -> PlaceSet
     requires { IsWithinLimits plan.now }
     ensures { (seen : Seen) → Knows state.now seen → AreSites plan.now seen service sender result }
 {
-    let mut sites = PortSet::empty();
+    let mut sites = PlaceSet::empty();
     let rows = plan.circuits.as_slice();
     for (place, row) in rows.iter().enumerate() {
         if is_site(state, row, CircuitId(place as u16), service, sender) {

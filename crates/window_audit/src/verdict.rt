@@ -6,7 +6,7 @@ ghost use Rattle.seen_network.specs.Verdict.{IsFirstOwed};
 ghost use Rattle.window_audit.specs.{Exits.{HasExits}, Verdict.{AgreeOrDiffer, Judges, earlier, is_owed_at}};
 
 use crate::exits::Exits;
-use hvpls_spokes::PortSet;
+use hvpls_spokes::PortSet as PlaceSet;
 use net_base::Plan;
 use seen_network::Window;
 
@@ -49,7 +49,7 @@ pub(crate) fn is_served(exits: &Exits, plan: &Plan, window: &Window) -> bool
 // Whether a frame left at those sites that are circuits of the plan, and at no other circuit. Where it did the two sets are the same,
 // which takes a walk over the plan's circuits alone.
 #[tactic(auto, using(crate::proofs::DueLemmas::same_agree))]
-fn is_at_sites(plan: &Plan, sites: &PortSet, at: &PortSet) -> bool
+fn is_at_sites(plan: &Plan, sites: &PlaceSet, at: &PlaceSet) -> bool
     ensures { AgreeOrDiffer plan.now sites.now at.now result }
 {
     if *at == due(plan, sites) {
@@ -60,10 +60,10 @@ fn is_at_sites(plan: &Plan, sites: &PortSet, at: &PortSet) -> bool
 
 // Those sites that are circuits of the plan.
 #[tactic(auto, using(crate::proofs::DueLemmas::due_steps))]
-fn due(plan: &Plan, sites: &PortSet) -> PortSet
+fn due(plan: &Plan, sites: &PlaceSet) -> PlaceSet
     ensures { (c : ℕ) → c < 512 → holds_port result c ≡ is_owed_at plan.now sites.now c }
 {
-    let mut due = PortSet::empty();
+    let mut due = PlaceSet::empty();
     let count = plan.circuits.len().min(512) as u16;
     for circuit in 0..count {
         put_due(&mut due, sites, circuit);
@@ -72,7 +72,7 @@ fn due(plan: &Plan, sites: &PortSet) -> PortSet
 }
 
 // Puts a circuit among those where a frame is due, where it is a site.
-fn put_due(due: &mut PortSet, sites: &PortSet, circuit: u16)
+fn put_due(due: &mut PlaceSet, sites: &PlaceSet, circuit: u16)
     requires port { circuit < 512 }
     requires new { holds_port due.old circuit ≡ false }
     ensures here { holds_port due.new circuit ≡ holds_port sites.now circuit }
@@ -84,7 +84,7 @@ fn put_due(due: &mut PortSet, sites: &PortSet, circuit: u16)
 }
 
 // The same by a walk over all ports.
-fn is_at_each(plan: &Plan, sites: &PortSet, at: &PortSet) -> bool
+fn is_at_each(plan: &Plan, sites: &PlaceSet, at: &PlaceSet) -> bool
     ensures { AgreeOrDiffer plan.now sites.now at.now result }
 {
     for circuit in 0..512 {

@@ -1,16 +1,16 @@
 //! The windows that a report shows.
 ghost use Rattle.std.specs.Prelude.{◌≡◌, ◌<◌, ◌+◌, ◌++◌, ◌∷◌, ◌^◌, [], List, IfOk, OnOk, false};
-ghost use Rattle.net_base.specs.declared.trace.entry.Entry.{Entry as Told, TheVariants.{Did}};
+ghost use Rattle.net_base.specs.declared.trace.entry.Entry.{Entry as Told};
 ghost use Rattle.net_base.specs.plan.Accepted.{IsChecked, IsWithinLimits};
 ghost use Rattle.seen_network.specs.Verdict.{OnceAnswers};
-ghost use Rattle.seen_state.specs.{Placed.{IsEventWithin, IsPlaced}, SeenEdges.{sizes_of}};
+ghost use Rattle.seen_state.specs.Placed.{IsPlaced};
 ghost use Rattle.window_audit.specs.{During.{tells_event}, WindowState.{IsWindowStateOf}, Windows.{AreOf, HasHeard, HasPassed, told_count}};
 
 use crate::during::During;
 use crate::exits::Exits;
 use crate::sources::Sources;
 use crate::window_state::WindowState;
-use net_base::{Entry, Event, NoMemory, Plan};
+use net_base::{Entry, NoMemory, Plan};
 use std::alloc::Global;
 
 /// What is known of a report, entry by entry: what is known behind the events that are over, what is kept of the last one, and where
@@ -43,7 +43,7 @@ impl Windows {
         }
     }
 
-    /// An entry is told, of which each edge, circuit and wire is one of the plan.
+    /// An entry is told, of which each edge, circuit and wire is one of the plan. One that tells of an event ends the last one.
     pub fn hear(&mut self, plan: &Plan, entry: Entry) -> Result<(), NoMemory>
         requires checked { IsChecked plan.now }
         requires placed { IsPlaced plan.now entry }
@@ -54,24 +54,13 @@ impl Windows {
         ensures heard { OnOk result ((trace : List Told) → HasHeard plan.now trace self.old → HasHeard plan.now (trace ++ entry ∷ []) self.new) }
     {
         match entry {
-            Entry::Did { event } => self.begin(plan, event),
+            Entry::Did { event } => {
+                self.pass(plan)?;
+                self.during.begin(event);
+                Ok(())
+            }
             other => self.add(plan, other),
         }
-    }
-
-    // An event is told: the last one is over.
-    fn begin(&mut self, plan: &Plan, event: Event) -> Result<(), NoMemory>
-        requires limits { IsWithinLimits plan.now }
-        requires placed { IsEventWithin (sizes_of plan.now) event }
-        requires ready { AreOf plan.now self.old }
-        requires few { told_count self.old + 1 < 2 ^ 63 }
-        ensures ready { OnOk result (AreOf plan.now self.new) }
-        ensures count { OnOk result (told_count self.new ≡ told_count self.old + 1) }
-        ensures heard { OnOk result ((trace : List Told) → HasHeard plan.now trace self.old → HasHeard plan.now (trace ++ Did event ∷ []) self.new) }
-    {
-        self.pass(plan)?;
-        self.during.begin(event);
-        Ok(())
     }
 
     // An entry is told that tells of no event.
