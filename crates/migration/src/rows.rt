@@ -32,11 +32,10 @@ pub trait PlanRow: Sized {
 
 impl PlanRow for EdgePlan {
     ghost use Rattle.migration.specs.Rows.{edge_table};
-    ghost use Rattle.std.specs.Prelude.{Unit};
 
     ghost table_of = { λ plan edge. edge_table edge };
 
-    ghost is_sayable = { λ edge. Unit };
+    ghost is_sayable = { λ edge. Unit {0} };
 
     #[tactic(auto, unfolding(crate::specs::Rows::edge_table))]
     fn keys(&self, alloc: Global, _plan: &Plan) -> Result<Table, NoMemory> {
@@ -53,11 +52,10 @@ impl PlanRow for EdgePlan {
 
 impl PlanRow for ServicePlan {
     ghost use Rattle.migration.specs.Rows.{service_table};
-    ghost use Rattle.std.specs.Prelude.{Unit};
 
     ghost table_of = { λ plan service. service_table service };
 
-    ghost is_sayable = { λ service. Unit };
+    ghost is_sayable = { λ service. Unit {0} };
 
     #[tactic(auto, unfolding(crate::specs::Rows::service_table))]
     fn keys(&self, alloc: Global, _plan: &Plan) -> Result<Table, NoMemory> {
@@ -72,11 +70,10 @@ impl PlanRow for ServicePlan {
 /// A group, by its number.
 impl PlanRow for u32 {
     ghost use Rattle.migration.specs.Rows.{group_table};
-    ghost use Rattle.std.specs.Prelude.{Unit};
 
     ghost table_of = { λ plan group. group_table group };
 
-    ghost is_sayable = { λ group. Unit };
+    ghost is_sayable = { λ group. Unit {0} };
 
     #[tactic(auto, unfolding(crate::specs::Rows::group_table))]
     fn keys(&self, alloc: Global, _plan: &Plan) -> Result<Table, NoMemory> {
@@ -90,11 +87,10 @@ impl PlanRow for u32 {
 
 impl PlanRow for CircuitPlan {
     ghost use Rattle.migration.specs.Rows.{circuit_table};
-    ghost use Rattle.std.specs.Prelude.{Unit};
 
     ghost table_of = { circuit_table };
 
-    ghost is_sayable = { λ circuit. Unit };
+    ghost is_sayable = { λ circuit. Unit {0} };
 
     #[tactic(auto, unfolding(crate::specs::Rows::circuit_table))]
     fn keys(&self, alloc: Global, plan: &Plan) -> Result<Table, NoMemory> {
