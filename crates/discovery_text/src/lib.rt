@@ -5,6 +5,8 @@
 #![tactic(auto)]
 
 mod note;
+mod noted_trace;
 mod text;
 
+pub use noted_trace::NotedTrace;
 pub use text::put_discovery;

@@ -5,6 +5,7 @@ ghost use Rattle.text_lines.specs.Written.{PutsOn};
 ghost use Rattle.discovery_text.specs.Text.{discovery_report, note_line, noted_lines};
 
 use crate::note::put_note;
+use crate::noted_trace::NotedTrace;
 use discovery_script::PlacedNote;
 use net_base::{Entry, Failed, Plan, Sink};
 use report_text::{Ending, put_entries, put_last_line};
@@ -68,17 +69,16 @@ pub fn put_discovery<K: Sink>(
     page: &mut Page,
     sink: &mut K,
     plan: &Plan,
-    trace: &[Entry],
-    notes: &[PlacedNote],
+    noted: NotedTrace<'_>,
     ending: Ending,
 ) -> Result<(), Failed>
-    ensures { PutsOn K.taken K.faults page.old page.new sink.old sink.new result (discovery_report plan.now trace.now notes.now ending) }
+    ensures { PutsOn K.taken K.faults page.old page.new sink.old sink.new result (discovery_report plan.now noted.entry.trace.now noted.entry.notes.now ending) }
 {
     if let Err(fault) = page.put(sink, b"vplsnet 1\n") {
         return Err(fault);
     }
-    match put_noted(page, sink, plan, trace, notes) {
-        Ok(()) => put_last_line(page, sink, trace, ending),
+    match put_noted(page, sink, plan, noted.trace, noted.notes) {
+        Ok(()) => put_last_line(page, sink, noted.trace, ending),
         Err(fault) => Err(fault),
     }
 }

@@ -1,6 +1,6 @@
 //! The report of a script.
 ghost use Rattle.std.specs.Prelude.{◌≡◌, ◌++◌};
-ghost use Rattle.switchover_text.specs.Text.{count_line, done_line, first_told, lines_text, switchover_text, told_behind, told_lines};
+ghost use Rattle.switchover_text.specs.Text.{done_line, first_told, lines_text, switchover_text, told_behind, told_lines};
 ghost use Rattle.text_lines.specs.Written.{PutsOn};
 
 use crate::entry::put_all_told;
@@ -55,17 +55,6 @@ fn put_lines<K: Sink>(
     Ok(())
 }
 
-// Puts how many lines there were.
-fn put_count<K: Sink>(page: &mut Page, sink: &mut K, lines: &[SwitchLine]) -> Result<(), Failed>
-    ensures { PutsOn K.taken K.faults page.old page.new sink.old sink.new result (count_line lines.now) }
-{
-    page.put_line(
-        sink,
-        b"end",
-        &[LineWord::Labelled(b"lines=", lines.len() as u64)],
-    )
-}
-
 /// Puts the report of a script: a line that names the format, each line of the script and under it a line for each thing that was told of
 /// it, and a line that tells how many lines there were. A place outside the plan is written as the empty text. It takes no memory. After
 /// `Failed` a front of what waited and of the report was taken, and the sink counted a fault.
@@ -83,7 +72,11 @@ pub fn put_switchover<K: Sink>(
         return Err(fault);
     }
     match put_lines(page, sink, plan, lines, told) {
-        Ok(()) => put_count(page, sink, lines),
+        Ok(()) => page.put_line(
+            sink,
+            b"end",
+            &[LineWord::Labelled(b"lines=", lines.len() as u64)],
+        ),
         Err(fault) => Err(fault),
     }
 }

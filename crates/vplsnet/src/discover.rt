@@ -15,7 +15,7 @@ use crate::script_file::{SCRIPT_LIMIT, refused};
 use crate::types::see_types;
 use discovery_net::{DiscoveryRun, run_script};
 use discovery_script::{ScriptLine, read_script};
-use discovery_text::put_discovery;
+use discovery_text::{NotedTrace, put_discovery};
 use net_base::{Failed, List, NoMemory, Plan, Shelf, Sink};
 use std::alloc::Global;
 use text_lines::Page;
@@ -91,7 +91,10 @@ fn put_lines<K: Sink>(page: &mut Page, sink: &mut K, run: &DiscoveryRun) -> Resu
     ensures { PutsOn K.taken K.faults page.old page.new sink.old sink.new result (discovery_text run.now.net.network run.now.net.notes run.now.stop) }
 {
     let network = run.net.network();
-    let trace = network.trace().as_slice();
+    let noted = NotedTrace {
+        trace: network.trace().as_slice(),
+        notes: run.net.notes(),
+    };
     let ending = ending_of(run.stop);
-    put_discovery(page, sink, network.plan(), trace, run.net.notes(), ending)
+    put_discovery(page, sink, network.plan(), noted, ending)
 }

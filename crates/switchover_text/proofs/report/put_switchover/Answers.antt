@@ -14,8 +14,8 @@ pub returns-in-Ok : goal.returns-in-Ok
 unfolding switchover_text
 returns-in-Ok g c =
     let lines = lines_text c.args.plan.now c.args.lines.now c.args.told.now in
-    puts_two c.put_count.result _ _ _ (codes "switchover 1\n" ++ lines) (count_line c.args.lines.now)
-    (goes_two _ _ _ (codes "switchover 1\n") lines c.in_default.ensures c.in-Ok.ensures) c.put_count.ensures
+    puts_two c.put_line.result _ _ _ (codes "switchover 1\n" ++ lines) (count_line c.args.lines.now)
+    (goes_two _ _ _ (codes "switchover 1\n") lines c.in_default.ensures c.in-Ok.ensures) c.put_line.ensures
 
 pub returns-in-Err-put_lines : goal.returns-in-Err-put_lines
 unfolding switchover_text
