@@ -46,31 +46,31 @@ at_end made none i rows list whole past so_far =
 
 -- ---- connections
 
-pub with_more : (connected : ℕ → ℕ → Bool) (a b : ℕ) (rows : List EdgePlan) (list more whole : List Fault) → b < length rows → list ++ sessions_with connected a b (drop b rows) ≡ whole
-    → more ≡ list ++ with_fault (where_so (connected a b) (fault.Session (record { 0 = a }) (record { 0 = b }))) [] → more ++ sessions_with connected a (b + 1) (drop (b + 1) rows) ≡ whole
-with_more connected a = one_more (sessions_with connected a) (λ b. where_so (connected a b) (fault.Session (record { 0 = a }) (record { 0 = b }))) (λ b row rows. refl)
+pub with_more : (connected : ℕ → ℕ → Bool) (a b : ℕ) (rows : List EdgePlan) (later list more whole : List Fault) → b < length rows
+    → list ++ (sessions_with connected a b (drop b rows) ++ later) ≡ whole
+    → more ≡ list ++ with_fault (where_so (connected a b) (fault.Session (record { 0 = a }) (record { 0 = b }))) [] → more ++ (sessions_with connected a (b + 1) (drop (b + 1) rows) ++ later) ≡ whole
+with_more connected a b rows later list more whole below so_far pushed =
+    sym (append_assoc more (sessions_with connected a (b + 1) (drop (b + 1) rows)) later)
+    ∙ (ap (λ (l : List Fault). l ++ later)
+    (one_more (sessions_with connected a) (λ b. where_so (connected a b) (fault.Session (record { 0 = a }) (record { 0 = b }))) (λ b row rows. refl) b rows list more
+    (list ++ sessions_with connected a b (drop b rows)) below refl pushed)
+    ∙ (append_assoc list (sessions_with connected a b (drop b rows)) later ∙ so_far))
 
-pub with_end : (connected : ℕ → ℕ → Bool) (a b : ℕ) (rows : List EdgePlan) (list whole : List Fault) → length rows ≤ b → list ++ sessions_with connected a b (drop b rows) ≡ whole → list ≡ whole
-with_end connected a = at_end (sessions_with connected a) (λ b. refl)
-
-pub ruleset with_steps = (with_more, with_end)
+pub with_end : (connected : ℕ → ℕ → Bool) (a b : ℕ) (rows : List EdgePlan) (later list whole : List Fault) → length rows ≤ b → list ++ (sessions_with connected a b (drop b rows) ++ later) ≡ whole
+    → list ++ later ≡ whole
+with_end connected a b rows later list whole past so_far = ap (λ (l : List Fault). list ++ (l ++ later)) (sym (ap (sessions_with connected a b) (drop_all b rows past))) ∙ so_far
 
 first_sessions : (connected : ℕ → ℕ → Bool) (a i : ℕ) (rows : List EdgePlan) → i < length rows
     → sessions_from connected a (drop i rows) ≡ sessions_with connected a (a + 1) (drop (i + 1) rows) ++ sessions_from connected (a + 1) (drop (i + 1) rows)
 first_sessions connected a i [] below = absurd (omega (arith, below))
 first_sessions connected a i (row ∷ rows) below = ap (sessions_from connected a) (drop_more (row ∷ rows) i row below)
 
-pub sessions_more : (connected : ℕ → ℕ → Bool) (a : ℕ) (rows : List EdgePlan) (list more whole : List Fault) → a < length rows → list ++ sessions_from connected a (drop a rows) ≡ whole
-    → more ≡ list ++ sessions_with connected a (a + 1) (drop (a + 1) rows) → more ++ sessions_from connected (a + 1) (drop (a + 1) rows) ≡ whole
-sessions_more connected a rows list more whole below so_far added =
-    ap (λ (l : List Fault). l ++ sessions_from connected (a + 1) (drop (a + 1) rows)) added
-    ∙ (append_assoc list (sessions_with connected a (a + 1) (drop (a + 1) rows)) (sessions_from connected (a + 1) (drop (a + 1) rows))
-    ∙ (ap (λ (l : List Fault). list ++ l) (sym (first_sessions connected a a rows below)) ∙ so_far))
+pub sessions_start : (connected : ℕ → ℕ → Bool) (a : ℕ) (rows : List EdgePlan) (list whole : List Fault) → a < length rows → list ++ sessions_from connected a (drop a rows) ≡ whole
+    → list ++ (sessions_with connected a (a + 1) (drop (a + 1) rows) ++ sessions_from connected (a + 1) (drop (a + 1) rows)) ≡ whole
+sessions_start connected a rows list whole below so_far = ap (λ (l : List Fault). list ++ l) (sym (first_sessions connected a a rows below)) ∙ so_far
 
 pub sessions_end : (connected : ℕ → ℕ → Bool) (a : ℕ) (rows : List EdgePlan) (list whole : List Fault) → length rows ≤ a → list ++ sessions_from connected a (drop a rows) ≡ whole → list ≡ whole
 sessions_end connected = at_end (sessions_from connected) (λ a. refl)
-
-pub ruleset session_steps = (sessions_more, sessions_end)
 
 -- ---- wires
 

@@ -43,7 +43,7 @@ learned meshes cores core row old new was worked put others = record { each = λ
 -- ---- whom each edge reaches, edge by edge
 
 -- the row of an edge, itself in it
-pub row_set : (old new : List ℕ) (edge word row : ℕ) → ((i j : ℕ) → has_pair new i j ≡ cond (nat_eq i edge) (in_word word j) (has_pair old i j))
+row_set : (old new : List ℕ) (edge word row : ℕ) → ((i j : ℕ) → has_pair new i j ≡ cond (nat_eq i edge) (in_word word j) (has_pair old i j))
     → ((k : ℕ) → in_word word k ≡ (nat_eq k edge && true) || in_word row k) → (i j : ℕ) → has_pair new i j ≡ cond (nat_eq i edge) (nat_eq j edge || in_word row j) (has_pair old i j)
 row_set old new edge word row put is i j =
     put i j ∙ ap (λ (b : Bool). cond (nat_eq i edge) b (has_pair old i j)) (is j ∙ ap (λ (b : Bool). b || in_word row j) (and_true (nat_eq j edge)))
@@ -51,11 +51,11 @@ row_set old new edge word row put is i j =
 pub pairs_none : (meshes : List ℕ) (cores : List (Option EdgeId)) (pairs : List ℕ) → ((a b : ℕ) → has_pair pairs a b ≡ false) → (a b : ℕ) → has_pair pairs a b ≡ nat_lt a 0 && meets_by meshes cores a b
 pairs_none meshes cores pairs none a b = none a b ∙ sym (ap (λ (t : Bool). t && meets_by meshes cores a b) (below_none a))
 
-pub pairs_more : (meshes : List ℕ) (cores : List (Option EdgeId)) (old new : List ℕ) (edge row : ℕ) (core : Option EdgeId) → edge < length cores → core ≡ slice_index_or cores edge core
+pub pairs_more : (meshes : List ℕ) (cores : List (Option EdgeId)) (old new : List ℕ) (edge row word : ℕ) (core : Option EdgeId) → edge < length cores → core ≡ slice_index_or cores edge core
     → ((a b : ℕ) → has_pair old a b ≡ nat_lt a edge && meets_by meshes cores a b)
-    → ((k : ℕ) → in_word row k ≡ meets meshes cores (place_of core) k) → ((i j : ℕ) → has_pair new i j ≡ cond (nat_eq i edge) (nat_eq j edge || in_word row j) (has_pair old i j))
-    → (a b : ℕ) → has_pair new a b ≡ nat_lt a (edge + 1) && meets_by meshes cores a b
-pairs_more meshes cores old new edge row core below read so_far worked put a b = put a b ∙ by (nat_eq a edge) refl where
+    → ((k : ℕ) → in_word row k ≡ meets meshes cores (place_of core) k) → ((k : ℕ) → in_word word k ≡ (nat_eq k edge && true) || in_word row k)
+    → ((i j : ℕ) → has_pair new i j ≡ cond (nat_eq i edge) (in_word word j) (has_pair old i j)) → (a b : ℕ) → has_pair new a b ≡ nat_lt a (edge + 1) && meets_by meshes cores a b
+pairs_more meshes cores old new edge row word core below read so_far worked is put a b = row_set old new edge word row put is a b ∙ by (nat_eq a edge) refl where
   by : (t : Bool) → nat_eq a edge ≡ t → cond t (nat_eq b edge || in_word row b) (has_pair old a b) ≡ nat_lt a (edge + 1) && meets_by meshes cores a b
   by false apart = so_far a b ∙ ap (λ (t : Bool). t && meets_by meshes cores a b) (sym (lt_next a edge apart))
   by true same =

@@ -1,10 +1,10 @@
 //! The faults of a network.
-ghost use Rattle.std.specs.Prelude.{◌≡◌, ◌<◌, ◌≤◌, ◌+◌, ◌++◌, [], None, OnOk, IfOk, drop, length};
+ghost use Rattle.std.specs.Prelude.{◌≡◌, ◌<◌, ◌≤◌, ◌++◌, [], None, OnOk, IfOk, length};
 ghost use Rattle.net_base.specs.plan.Accepted.{IsChecked};
 ghost use Rattle.network_model.specs.State.{NetworkState};
 ghost use Rattle.survey_laws.specs.Faults.{where_so, with_fault};
 ghost use Rattle.survey_reach.specs.{Ground.{IsGroundOf, number_of, sound_at}, Words.{has_pair}};
-ghost use Rattle.survey_reach.specs.FaultList.{all_faults, edges_from, has_peer, priorities_from, sessions_from, sessions_with, wires_from};
+ghost use Rattle.survey_reach.specs.FaultList.{all_faults, edges_from, has_peer, priorities_from, sessions_from, wires_from};
 
 use crate::rivals::priority_fault;
 use crate::{EdgePairs, Ground};
@@ -30,30 +30,7 @@ fn push_some(list: &mut List<Fault>, fault: Option<Fault>) -> Result<(), NoMemor
     }
 }
 
-// Adds the connections of an edge with later edges.
-#[tactic(auto, using(crate::proofs::FaultLemmas::with_steps))]
-fn add_sessions_of(
-    list: &mut List<Fault>,
-    connected: &EdgePairs,
-    edges: &[EdgePlan],
-    a: usize,
-) -> Result<(), NoMemory>
-    requires few { length edges.now ≤ 64 }
-    requires edge { a < length edges.now }
-    ensures { OnOk result (list.new ≡ list.old ++ sessions_with (has_pair connected.now) a (a + 1) (drop (a + 1) edges.now)) }
-{
-    for b in a + 1..edges.len() {
-        let fault = Fault::Session {
-            one: EdgeId(a as u16),
-            other: EdgeId(b as u16),
-        };
-        push_some(list, where_so(connected.has(a, b), fault))?;
-    }
-    Ok(())
-}
-
 // Adds the connections of each edge with later ones.
-#[tactic(auto, using(crate::proofs::FaultLemmas::session_steps))]
 fn add_sessions(
     list: &mut List<Fault>,
     connected: &EdgePairs,
@@ -62,8 +39,14 @@ fn add_sessions(
     requires { length edges.now ≤ 64 }
     ensures { OnOk result (list.new ≡ list.old ++ sessions_from (has_pair connected.now) 0 edges.now) }
 {
-    for edge in 0..edges.len() {
-        add_sessions_of(list, connected, edges, edge)?;
+    for a in 0..edges.len() {
+        for b in a + 1..edges.len() {
+            let fault = Fault::Session {
+                one: EdgeId(a as u16),
+                other: EdgeId(b as u16),
+            };
+            push_some(list, where_so(connected.has(a, b), fault))?;
+        }
     }
     Ok(())
 }

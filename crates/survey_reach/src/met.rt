@@ -100,15 +100,6 @@ impl Met {
     }
 }
 
-// Puts the edges that an edge reaches, itself among them.
-#[tactic(auto, using(crate::proofs::MetLemmas::row_set))]
-fn set_reach(pairs: &mut EdgePairs, edge: usize, row: u64)
-    requires { edge < 64 }
-    ensures { (i j : ℕ) → has_pair pairs.new i j ≡ (if i == edge then (j == edge || in_word row j) else has_pair pairs.old i j) }
-{
-    pairs.set_row(edge, with_bit_where(row, edge, true));
-}
-
 /// Whom each edge reaches: itself, and each edge of which the core edge meets its own one.
 #[tactic(auto, using(crate::proofs::MetLemmas::row_steps))]
 pub(crate) fn rows(meshes: &EdgePairs, cores: &[Option<EdgeId>]) -> EdgePairs
@@ -120,7 +111,7 @@ pub(crate) fn rows(meshes: &EdgePairs, cores: &[Option<EdgeId>]) -> EdgePairs
     let mut met = Met::none();
     for edge in 0..cores.len() {
         let row = met.row_of(meshes, cores, cores[edge]);
-        set_reach(&mut pairs, edge, row);
+        pairs.set_row(edge, with_bit_where(row, edge, true));
     }
     pairs
 }

@@ -1,6 +1,6 @@
 //! Whom each edge would reach.
 ghost use Rattle.std.specs.Prelude.{◌≡◌, ◌<◌, ◌==◌, ◌&&◌, ◌||◌, ℕ, Bool, false, length, map, None, OnOk, IfOk, IfSome};
-ghost use Rattle.net_base.specs.plan.{Accepted.{IsChecked}, Places.{wire_row}, Roles.{is_mesh_of, is_spoke_edge}};
+ghost use Rattle.net_base.specs.plan.{Accepted.{IsChecked}, Places.{wire_row}, Roles.{is_mesh_of}};
 ghost use Rattle.network_model.specs.State.{NetworkState};
 ghost use Rattle.survey_laws.specs.Would.{last_of, would_core, would_home};
 ghost use Rattle.survey_reach.specs.{Ground.{IsGroundOf}, Rows.{IsFilled}, Words.{has_pair}};
@@ -155,15 +155,6 @@ fn meshes(plan: &Plan, sound: &[bool], service: ServiceId) -> EdgePairs
     pairs
 }
 
-// Whether an edge of the plan starts spokes.
-fn starts_spokes(plan: &Plan, shape: &Shape, edge: usize) -> bool
-    requires shape { IsShapeOf plan.now shape.now.service shape.now }
-    requires edge { edge < length plan.now.edges }
-    ensures { result ≡ is_spoke_edge plan.now shape.now.service edge }
-{
-    shape.starts.as_slice()[edge]
-}
-
 impl Reaching {
     /// Room for any plan.
     pub fn new(alloc: Global) -> Reaching {
@@ -229,7 +220,7 @@ impl Reaching {
         ensures sound { self.new.sound.items ≡ self.old.sound.items }
         ensures cores { self.new.cores.items ≡ self.old.cores.items }
     {
-        if !starts_spokes(failed.plan, shape, edge) {
+        if !shape.starts.as_slice()[edge] {
             return Ok(Some(EdgeId(edge as u16)));
         }
         match shape.spokes.get(edge) {

@@ -1,5 +1,5 @@
 //! The number by which a spoke is chosen no more, or is chosen, as long as the others stand (RFC 6870).
-ghost use Rattle.std.specs.Prelude.{◌≡◌, ◌<◌, ◌==◌, ◌&&◌, not, None, if◌then◌else◌, length};
+ghost use Rattle.std.specs.Prelude.{◌≡◌, ◌<◌, ◌==◌, ◌&&◌, not, None, length};
 ghost use Rattle.net_base.specs.plan.Accepted.{IsChecked};
 ghost use Rattle.network_model.specs.State.{NetworkState};
 ghost use Rattle.survey_reach.specs.{Ground.{IsGroundOf, number_of}};
@@ -32,27 +32,14 @@ fn start_together(path: &[EdgeId], other: &[EdgeId]) -> bool
     }
 }
 
-// Whether two wires are spokes of one service from one edge.
-fn are_rivals(row: &WirePlan, other: &WirePlan) -> bool
-    ensures { result ≡ are_rivals row.now other.now }
-{
-    (row.class == Class::Spoke && other.class == Class::Spoke)
-        && (row.service.0 == other.service.0
-            && start_together(row.path.as_slice(), other.path.as_slice()))
-}
-
-// Whether another wire is a rival of the one at a place.
+// Whether another wire is a rival of the one at a place: both are spokes of one service from one edge.
 fn is_rival(wire: usize, row: &WirePlan, place: usize, other: &WirePlan) -> bool
     ensures { result ≡ (not (place == wire) && are_rivals row.now other.now) }
 {
-    place != wire && are_rivals(row, other)
-}
-
-// The least number so far and that of another wire, where it is a rival.
-fn with_rival(least: Option<u8>, so: bool, number: u8) -> Option<u8>
-    ensures { result ≡ (if so then lesser least number else least) }
-{
-    if so { lesser(least, number) } else { least }
+    place != wire
+        && ((row.class == Class::Spoke && other.class == Class::Spoke)
+            && (row.service.0 == other.service.0
+                && start_together(row.path.as_slice(), other.path.as_slice())))
 }
 
 // The least number of the other spokes of the service from the same edge.
@@ -65,8 +52,10 @@ fn least_rival(plan: &Plan, ground: &Ground, wire: usize, row: &WirePlan) -> Opt
     let wires = plan.wires.as_slice();
     let mut least = None;
     for other in 0..wires.len() {
-        let so = is_rival(wire, row, other, &wires[other]);
-        least = with_rival(least, so, ground.numbers[other]);
+        let number = ground.numbers[other];
+        if is_rival(wire, row, other, &wires[other]) {
+            least = lesser(least, number);
+        }
     }
     least
 }
