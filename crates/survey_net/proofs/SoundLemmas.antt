@@ -86,9 +86,7 @@ pairs_connected plan network pair (first ∷ next ∷ rest) are all =
     (are first.0 next.0 ∙ peers_are plan network first next (all_first (is_edge_of plan) first (next ∷ rest) all) (all_first (is_edge_of plan) next rest later))
     ∙ ap (λ (p : Bool). are_connected network first.0 next.0 && p) (pairs_connected plan network pair (next ∷ rest) are later)
 
-pub ruleset first_steps = (first_within, first_clear)
-
-pub ruleset last_steps = (last_within, last_clear)
+pub ruleset end_steps = (first_within, first_clear, last_within, last_clear)
 
 pub ruleset sound_steps = (all_few, pairs_connected)
 

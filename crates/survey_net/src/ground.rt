@@ -1,8 +1,6 @@
 //! The ground of a network.
 ghost use Rattle.std.specs.Prelude.{◌≡◌, ◌<◌, ℕ, true, false, length, IfOk, IfSome};
 ghost use Rattle.net_base.specs.plan.RowFaults.{is_edge_of};
-ghost use Rattle.edge_model.specs.State.{is_on};
-ghost use Rattle.network_model.specs.State.{edge_at};
 ghost use Rattle.psn_net.specs.Lists.{network_seen};
 ghost use Rattle.survey_reach.specs.Ground.{IsGroundOf, are_peers, has_label, number_of, on_at, sound_at};
 ghost use Rattle.survey_reach.specs.{Rows.{IsFilled}, Words.{has_pair}};
@@ -72,18 +70,6 @@ fn numbers(alloc: Global, network: &Network) -> Result<Vec<u8>, NoMemory>
     Ok(numbers)
 }
 
-// Whether a circuit at an edge is on.
-fn is_on_there(network: &Network, circuit: CircuitId, edge: EdgeId) -> bool
-    requires circuit { circuit.0 < length network.now.plan.circuits }
-    requires edge { edge.0 < length network.now.plan.edges }
-    ensures { result ≡ is_on (edge_at (network_seen network.now) edge) circuit }
-{
-    match network.edge(edge) {
-        Some(edge) => edge.is_on(circuit),
-        None => false,
-    }
-}
-
 // Whether the circuit at a place is on.
 #[tactic(auto, using(crate::proofs::SoundLemmas::circuit_steps))]
 fn is_on(network: &Network, circuit: usize) -> bool
@@ -92,7 +78,10 @@ fn is_on(network: &Network, circuit: usize) -> bool
     // Asked so that the plan is known to be checked for the proof.
     let _count = network.count();
     match network.plan().circuits.get(circuit) {
-        Some(row) => is_on_there(network, CircuitId(circuit as u16), row.edge),
+        Some(row) => match network.edge(row.edge) {
+            Some(edge) => edge.is_on(CircuitId(circuit as u16)),
+            None => false,
+        },
         None => false,
     }
 }

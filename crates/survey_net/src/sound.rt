@@ -4,7 +4,7 @@ ghost use Rattle.std.specs.List.{list_all};
 ghost use Rattle.net_base.specs.plan.RowFaults.{is_edge_of};
 ghost use Rattle.pw_signalling.specs.Down.{differ, mtus_differ};
 ghost use Rattle.psn_net.specs.Lists.{network_seen};
-ghost use Rattle.settle_laws.specs.Sound.{do_agree, first_is_clear, is_on_along, is_sound, last_is_clear};
+ghost use Rattle.settle_laws.specs.Sound.{do_agree, is_on_along, is_sound};
 ghost use Rattle.survey_reach.specs.{Ground.{are_peers, sound_at}, Words.{has_pair}};
 ghost use Rattle.survey_net.specs.Along.{are_pairs, is_clear_at, is_one, meets_next};
 
@@ -85,26 +85,6 @@ fn is_clear(network: &Network, wire: WireId, edge: Option<EdgeId>) -> bool
     }
 }
 
-// Whether the end at the first edge of a wire has none.
-#[tactic(auto, using(crate::proofs::SoundLemmas::first_steps))]
-fn first_is_clear(network: &Network, wire: WireId, path: &[EdgeId]) -> bool
-    requires wire { wire.0 < length network.now.plan.wires }
-    requires edges { list_all (is_edge_of network.now.plan) path.now ≡ true }
-    ensures { result ≡ first_is_clear (network_seen network.now) wire.0 path.now }
-{
-    is_clear(network, wire, first_of(path))
-}
-
-// Whether the end at the last edge has none.
-#[tactic(auto, using(crate::proofs::SoundLemmas::last_steps))]
-fn last_is_clear(network: &Network, wire: WireId, path: &[EdgeId]) -> bool
-    requires wire { wire.0 < length network.now.plan.wires }
-    requires edges { list_all (is_edge_of network.now.plan) path.now ≡ true }
-    ensures { result ≡ last_is_clear (network_seen network.now) wire.0 path.now }
-{
-    is_clear(network, wire, last_of(path))
-}
-
 // Whether both tell one MTU, where both tell one.
 fn mtus_agree(near: Option<u16>, far: Option<u16>) -> bool
     ensures { result ≡ not (mtus_differ near far) }
@@ -132,7 +112,7 @@ fn do_agree(near: &Offer, far: &Offer) -> bool
 }
 
 // Whether a wire is on at each edge of its path, both its ends are clear, and its neighbours are connected.
-#[tactic(auto, using(crate::proofs::SoundLemmas::sound_steps))]
+#[tactic(auto, using(crate::proofs::SoundLemmas::sound_steps, crate::proofs::SoundLemmas::end_steps))]
 fn is_sound(network: &Network, connected: &EdgePairs, wire: WireId, row: &WirePlan) -> bool
     requires wire { wire.0 < length network.now.plan.wires }
     requires edges { list_all (is_edge_of network.now.plan) row.now.path ≡ true }
@@ -144,8 +124,8 @@ fn is_sound(network: &Network, connected: &EdgePairs, wire: WireId, row: &WirePl
     let path = row.path.as_slice();
     is_on_along(network, wire, path)
         && is_connected(connected, path)
-        && first_is_clear(network, wire, path)
-        && last_is_clear(network, wire, path)
+        && is_clear(network, wire, first_of(path))
+        && is_clear(network, wire, last_of(path))
         && do_agree(&row.near, &row.far)
 }
 
