@@ -4,7 +4,7 @@ ghost use Rattle.net_base.specs.plan.Accepted.{IsWithinLimits};
 ghost use Rattle.edge_model.specs.State.{addresses_of};
 ghost use Rattle.hvpls_spokes.specs.Port.{ports_of};
 ghost use Rattle.provider_edge.specs.Lists.{seen};
-ghost use Rattle.tables_text.specs.Tables.{address_lines, address_words, port_name, service_lines, service_name, service_text};
+ghost use Rattle.tables_text.specs.Tables.{address_line, address_lines, address_words, port_name, service_lines, service_name, service_text};
 ghost use Rattle.text_lines.specs.{Lines.{word_octets}, Written.{PutsOn}};
 
 use crate::sorting::Sorting;
@@ -47,6 +47,18 @@ fn words<'a>(service: &Service<'a>, entry: &'a MacEntry) -> [LineWord<'a>; 4]
     ]
 }
 
+// Puts the line of an address.
+fn put_entry<K: Sink>(
+    page: &mut Page,
+    sink: &mut K,
+    service: &Service<'_>,
+    entry: &MacEntry,
+) -> Result<(), Failed>
+    ensures { PutsOn K.taken K.faults page.old page.new sink.old sink.new result (address_line service.now.plan.now service.now.name.now service.now.ports.now entry.now) }
+{
+    page.put_line(sink, b"mac", &words(service, entry))
+}
+
 // Puts the lines of addresses.
 fn put_entries<K: Sink>(
     page: &mut Page,
@@ -57,7 +69,7 @@ fn put_entries<K: Sink>(
     ensures { PutsOn K.taken K.faults page.old page.new sink.old sink.new result (address_lines service.now.plan.now service.now.name.now service.now.ports.now entries.now) }
 {
     for entry in entries {
-        page.put_line(sink, b"mac", &words(service, entry))?;
+        put_entry(page, sink, service, entry)?;
     }
     Ok(())
 }
