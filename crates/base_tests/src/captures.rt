@@ -1,6 +1,6 @@
 //! Captures that were worked out by hand: their frames, and one file for each fault and each field, with its place.
 
-use crate::hex::push_octets;
+use crate::hex::{octets_of, push_octets};
 use crate::rows::{About, reads_as};
 use crate::words::is_told;
 use pcap_file::{read_capture, write_header, write_record};
@@ -75,17 +75,10 @@ const BIG_RECORDS: &str = "
     00000000 00000000 00000002 00000002 ff = Err(Truncated { at: 40, field: Data })
 ";
 
-// The octets of a header and of what stands behind it.
-fn file_of(rt: &impl Abort, alloc: Global, header: &str, more: &str) -> Vec<u8> {
-    let mut octets = Vec::new(alloc);
-    push_octets(rt, &mut octets, header);
-    push_octets(rt, &mut octets, more);
-    octets
-}
-
 /// The file of a header and of the octets of a row has these frames or this fault, in the words of its type.
 pub fn agrees(rt: &impl Abort, alloc: Global, header: &str, more: &str, words: &str) {
-    let octets = file_of(rt, alloc, header, more);
+    let mut octets = octets_of(rt, alloc, header);
+    push_octets(rt, &mut octets, more);
     let read = read_capture(alloc, octets.as_slice());
     is_told(rt, alloc, &read, words);
 }
@@ -112,18 +105,12 @@ fn has_longest_frame(rt: &impl Abort, alloc: Global, octets: &[u8]) {
 const BEFORE_LONGEST: &str =
     "a1b2c3d4 00020004 00000000 00000000 00000000 00000001 00000000 00000000 00040000 00040000";
 
-// The octets of its file.
-fn push_longest(rt: &impl Abort, octets: &mut Vec<u8>) {
-    push_octets(rt, octets, BEFORE_LONGEST);
-    for _ in 0..262_144 {
-        octets.push(0x5A).expect(rt, "memory");
-    }
-}
-
 #[test]
 fn reads_the_longest_frame(rt: HostRuntime) {
-    let mut octets = Vec::new(rt.alloc());
-    push_longest(&rt, &mut octets);
+    let mut octets = octets_of(&rt, rt.alloc(), BEFORE_LONGEST);
+    for _ in 0..262_144 {
+        octets.push(0x5A).expect(&rt, "memory");
+    }
     has_longest_frame(&rt, rt.alloc(), octets.as_slice());
 }
 

@@ -27,17 +27,11 @@ fn answer(link: &mut MemLink, peer: EdgeId, bytes: &[u8], packet: bool) -> Optio
     }
 }
 
-// Makes a call, and tests what the link answers.
-fn makes(rt: &impl Abort, alloc: Global, link: &mut MemLink, call: &Call) {
-    let (peer, bytes, packet, words) = *call;
-    let stop = answer(link, EdgeId(peer), bytes, packet);
-    is_told(rt, alloc, &stop, words);
-}
-
-// Makes each call; one of them fails, and all are kept.
+// Makes each call, which the link answers so; one of them fails, and all are kept.
 fn makes_each(rt: &impl Abort, alloc: Global, link: &mut MemLink) {
-    for call in CALLS.as_slice() {
-        makes(rt, alloc, link, call);
+    for (peer, bytes, packet, words) in CALLS.as_slice() {
+        let stop = answer(link, EdgeId(*peer), bytes, *packet);
+        is_told(rt, alloc, &stop, words);
     }
     assert!(rt; link.faults() == 1);
     is_told(rt, alloc, link.calls(), KEPT);

@@ -25,18 +25,14 @@ const PDU: &str =
     "0001003a0a0000010000 0100001400000007 04000004 002d8000 04010004 0a000002 02010004ffffffff bf00000400000009 0201000800000002 3f000000";
 
 // Behind a line stand those of the messages of a PDU that is lent, in two pieces.
-fn adds_lent(rt: &impl Abort, alloc: Global, octets: &[u8]) {
-    let mut text = Vec::from_slice(alloc, b"0 KeepAlive id=1\n").expect(rt, "memory");
-    let (front, back) = octets.split_at(octets.len() / 2);
-    let view = view_pdu(front, back, 4096).ok().expect(rt, "a PDU");
-    put_views(alloc, &mut text, 18, &view).expect(rt, "memory");
-    assert!(rt; is_same(text.as_slice(), LINES.as_bytes()));
-}
-
 #[test]
 fn adds_a_line_for_each_lent_message(rt: HostRuntime) {
     let octets = octets_of(&rt, rt.alloc(), PDU);
-    adds_lent(&rt, rt.alloc(), octets.as_slice());
+    let mut text = Vec::from_slice(rt.alloc(), b"0 KeepAlive id=1\n").expect(&rt, "memory");
+    let (front, back) = octets.split_at(octets.len() / 2);
+    let view = view_pdu(front, back, 4096).ok().expect(&rt, "a PDU");
+    put_views(rt.alloc(), &mut text, 18, &view).expect(&rt, "memory");
+    assert!(rt; is_same(text.as_slice(), LINES.as_bytes()));
 }
 
 #[test]

@@ -12,14 +12,6 @@ use net_base::{
 use std::alloc::Global;
 use std::process::Abort;
 
-fn class_of(word: &str) -> Class {
-    if word == "mesh" {
-        Class::Mesh
-    } else {
-        Class::Spoke
-    }
-}
-
 fn name(rt: &impl Abort, text: &str) -> Name {
     Name::read(text).expect(rt, "a name")
 }
@@ -70,10 +62,11 @@ fn wire(rt: &impl Abort, alloc: Global, words: &str) -> WirePlan {
     let (class, words) = cut(rt, words);
     let (text, words) = cut(rt, words);
     let (path, pw_id) = cut(rt, words);
+    let is_mesh = class == "mesh";
     WirePlan {
         name: name(rt, text),
         service: ServiceId(0),
-        class: class_of(class),
+        class: if is_mesh { Class::Mesh } else { Class::Spoke },
         pw_id: number_of(rt, pw_id),
         near: offer(rt),
         far: offer(rt),
@@ -89,22 +82,9 @@ fn add_edge(rt: &impl Abort, plan: &mut Plan, text: &str, number: u8) {
     plan.edges.push(edge(rt, text, number)).expect(rt, "memory");
 }
 
-fn add_service(rt: &impl Abort, plan: &mut Plan) {
-    let service = ServicePlan {
-        name: name(rt, "red"),
-        mtu: 1500,
-        age: 300,
-    };
-    plan.services.push(service).expect(rt, "memory");
-}
-
 // Adds a circuit at edge 1.
 fn add_circuit(rt: &impl Abort, plan: &mut Plan, name: &str) {
     plan.circuits.push(circuit(rt, name)).expect(rt, "memory");
-}
-
-fn add_wire(rt: &impl Abort, alloc: Global, plan: &mut Plan, words: &str) {
-    plan.wires.push(wire(rt, alloc, words)).expect(rt, "memory");
 }
 
 // Adds these wires.
@@ -113,7 +93,8 @@ fn add_wires(rt: &impl Abort, alloc: Global, plan: &mut Plan, rows: &str) {
         return;
     }
     for words in rows.split(',') {
-        add_wire(rt, alloc, plan, words.trim());
+        let wire = wire(rt, alloc, words.trim());
+        plan.wires.push(wire).expect(rt, "memory");
     }
 }
 
@@ -121,7 +102,12 @@ fn fill(rt: &impl Abort, alloc: Global, plan: &mut Plan, rows: &str) {
     for (number, name) in NAMES.as_slice() {
         add_edge(rt, plan, name, *number);
     }
-    add_service(rt, plan);
+    let service = ServicePlan {
+        name: name(rt, "red"),
+        mtu: 1500,
+        age: 300,
+    };
+    plan.services.push(service).expect(rt, "memory");
     add_circuit(rt, plan, "site");
     add_wires(rt, alloc, plan, rows);
 }
@@ -285,16 +271,12 @@ const NEIGHBOURS: [(u16, u16, &'static str); 8] = [
     (5, 1, "(false, None)"),
 ];
 
-// What a wire tells of two edges.
-fn tells(rt: &impl Abort, alloc: Global, wire: &WirePlan, me: EdgeId, from: EdgeId, words: &str) {
-    let told = (wire.are_neighbours(me, from), wire.mate(me, from));
-    is_told(rt, alloc, &told, words);
-}
-
 // What a wire tells of each two edges.
 fn tells_each(rt: &impl Abort, alloc: Global, wire: &WirePlan) {
     for (me, from, words) in NEIGHBOURS.as_slice() {
-        tells(rt, alloc, wire, EdgeId(*me), EdgeId(*from), words);
+        let (me, from) = (EdgeId(*me), EdgeId(*from));
+        let told = (wire.are_neighbours(me, from), wire.mate(me, from));
+        is_told(rt, alloc, &told, words);
     }
 }
 

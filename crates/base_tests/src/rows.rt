@@ -29,20 +29,15 @@ pub enum About {
     Plans,
 }
 
-// Octets agree.
-fn are_octets(rt: &impl Abort, alloc: Global, about: About, octets: &[u8], words: &str) {
+// Digits are octets that agree.
+fn are_octets(rt: &impl Abort, alloc: Global, about: About, digits: &str, words: &str) {
+    let octets = octets_of(rt, alloc, digits);
     match about {
         About::Pdus | About::BothWays | About::OneWay => {
-            pdus::agrees(rt, alloc, about, octets, words)
+            pdus::agrees(rt, alloc, about, octets.as_slice(), words)
         }
-        _ => values::agrees(rt, alloc, about, octets, words),
+        _ => values::agrees(rt, alloc, about, octets.as_slice(), words),
     }
-}
-
-// Digits are octets that agree.
-fn are_digits(rt: &impl Abort, alloc: Global, about: About, digits: &str, words: &str) {
-    let octets = octets_of(rt, alloc, digits);
-    are_octets(rt, alloc, about, octets.as_slice(), words);
 }
 
 // What stands before and behind `= ` in a row agrees.
@@ -51,18 +46,7 @@ fn agrees(rt: &impl Abort, alloc: Global, about: About, row: &str, words: &str) 
         About::Captures(header) => captures::agrees(rt, alloc, header, row, words),
         About::Frames => frames::agrees(rt, alloc, row.trim(), words),
         About::Plans => plans::has_first_fault(rt, alloc, row.trim(), words),
-        _ => are_digits(rt, alloc, about, row, words),
-    }
-}
-
-// A line agrees where it is a row; how many rows it is.
-fn reads_line(rt: &impl Abort, alloc: Global, about: About, line: &str) -> usize {
-    match line.split_once("= ") {
-        Some((row, words)) => {
-            agrees(rt, alloc, about, row, words);
-            1
-        }
-        None => 0,
+        _ => are_octets(rt, alloc, about, row, words),
     }
 }
 
@@ -70,7 +54,10 @@ fn reads_line(rt: &impl Abort, alloc: Global, about: About, line: &str) -> usize
 pub fn reads_as(rt: &impl Abort, alloc: Global, about: About, table: &str, count: usize) {
     let mut rows: usize = 0;
     for line in table.lines() {
-        rows = rows.saturating_add(reads_line(rt, alloc, about, line));
+        if let Some((row, words)) = line.split_once("= ") {
+            agrees(rt, alloc, about, row, words);
+            rows = rows.saturating_add(1);
+        }
     }
     assert!(rt; rows == count);
 }

@@ -16,11 +16,6 @@ pub fn number(rt: &impl Abort, digits: &str) -> usize {
     digits.parse::<usize>().ok().expect(rt, "a number")
 }
 
-/// How many rows a line is: one where it has words behind `= `.
-pub fn rows_in(line: &str) -> usize {
-    if line.contains("= ") { 1 } else { 0 }
-}
-
 /// A number of 32 bits of these digits.
 pub fn number_of(rt: &impl Abort, digits: &str) -> u32 {
     digits.parse::<u32>().ok().expect(rt, "a number")

@@ -28,16 +28,6 @@ fn finds(rt: &impl Abort, table: &MacTable, address: Mac, port: Option<u16>) {
     assert!(rt; table.find(address) == port);
 }
 
-// The first address is at port 3 since tick 10.
-fn holds_first(rt: &impl Abort, table: &MacTable) {
-    let first = MacEntry {
-        address: FIRST,
-        port: 3,
-        tick: 10,
-    };
-    assert!(rt; table.entry(0) == Some(first));
-}
-
 // A table with room for two addresses learns three.
 fn learns_three(rt: &impl Abort, table: &mut MacTable)
     requires ticks { NoneAfter 10 table.old.entries }
@@ -48,10 +38,14 @@ fn learns_three(rt: &impl Abort, table: &mut MacTable)
     learns(rt, table, THIRD, 1, Learned::NotLearned);
 }
 
-// The table holds two of them.
+// The table holds two of them, the first at port 3 since tick 10.
 fn holds_two(rt: &impl Abort, table: &MacTable) {
-    assert!(rt; table.len() == 2);
-    holds_first(rt, table);
+    let first = MacEntry {
+        address: FIRST,
+        port: 3,
+        tick: 10,
+    };
+    assert!(rt; table.len() == 2 && table.entry(0) == Some(first));
     finds(rt, table, SECOND, Some(1));
     finds(rt, table, THIRD, None);
 }

@@ -51,16 +51,12 @@ fn pass(rt: &impl Abort, alloc: Global, plan: &Plan, row: &Row) {
     passes(rt, &ports, role, from, to);
 }
 
-fn pass_each(rt: &impl Abort, alloc: Global, plan: &Plan) {
-    for row in ROWS.as_slice() {
-        pass(rt, alloc, plan, row);
-    }
-}
-
 #[test]
 fn passes_on(rt: HostRuntime) {
     let plan = plan(&rt, rt.alloc(), HIERARCHY);
-    pass_each(&rt, rt.alloc(), &plan);
+    for row in ROWS.as_slice() {
+        pass(&rt, rt.alloc(), &plan, row);
+    }
 }
 
 // Numbers of addresses, and how many pieces they take.

@@ -9,23 +9,14 @@ use std::process::Abort;
 const NO_TEXT: &str =
     "Text { octets: [0, 0, 0, 0, 0, 0, 0, 0, 0, 0, 0, 0, 0, 0, 0, 0, 0, 0, 0, 0, 0, 0, 0, 0, 0, 0, 0, 0, 0, 0, 0, 0, 0, 0, 0, 0, 0, 0, 0, 0, 0, 0, 0, 0, 0, 0, 0, 0, 0, 0, 0, 0, 0, 0, 0, 0, 0, 0, 0, 0, 0, 0, 0, 0, 0, 0, 0, 0, 0, 0, 0, 0, 0, 0, 0, 0, 0, 0, 0, 0], len: 0 }";
 
-// The words of a name or a key.
-fn key_words(rt: &impl Abort, alloc: Global, key: &str) -> String {
+// What stands behind a name or a key.
+fn behind_key<'a>(rt: &impl Abort, alloc: Global, told: &'a str, key: &str) -> Option<&'a str> {
     let key: Text<32> = Text::read(key.as_bytes()).expect(rt, "a key");
-    format!(in alloc; "{key:?}").expect(rt, "memory")
+    let words = format!(in alloc; "{key:?}").expect(rt, "memory");
+    told.strip_prefix(words.as_str())
 }
 
-// What stands behind a name, a key or an empty description.
-fn behind_text<'a>(rt: &impl Abort, alloc: Global, told: &'a str, text: &str) -> Option<&'a str> {
-    if text.is_empty() {
-        told.strip_prefix(NO_TEXT)
-    } else {
-        let words = key_words(rt, alloc, text);
-        told.strip_prefix(words.as_str())
-    }
-}
-
-// What stands behind these words, which are a text or not.
+// What stands behind these words, which are a name, a key or an empty description, or not.
 fn behind<'a>(
     rt: &impl Abort,
     alloc: Global,
@@ -34,10 +25,10 @@ fn behind<'a>(
     quoted: bool,
 ) -> Option<&'a str> {
     let told = told?;
-    if quoted {
-        behind_text(rt, alloc, told, words)
-    } else {
-        told.strip_prefix(words)
+    match (quoted, words) {
+        (true, "") => told.strip_prefix(NO_TEXT),
+        (true, key) => behind_key(rt, alloc, told, key),
+        (false, words) => told.strip_prefix(words),
     }
 }
 

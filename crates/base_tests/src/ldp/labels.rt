@@ -60,27 +60,19 @@ impl Labels {
             && self.is_owned(rt, number, Some((segment(peer), 1)))
     }
 
-    // Whether no number is left to be given to the end towards a neighbour.
-    fn has_none(&mut self, rt: &impl Abort, peer: EdgeId) -> bool {
-        !self.space.has_number() && self.issue(rt, peer) == Err(NoLabel)
-    }
-
-    // Whether the end towards a neighbour gets the numbers from one to another in turn.
-    fn gives_all(&mut self, rt: &impl Abort, peer: EdgeId, (first, last): (u32, u32)) -> bool {
+    // Whether the end towards a neighbour gets these numbers in turn, or none, where no number is left to be given.
+    fn gives_all(&mut self, rt: &impl Abort, words: &str) -> bool {
+        let (name, numbers) = cut(rt, words);
+        let peer = neighbour(name);
+        if numbers == "none" {
+            return !self.space.has_number() && self.issue(rt, peer) == Err(NoLabel);
+        }
+        let (first, last) = range_of(rt, numbers);
         let mut agrees = true;
         for number in first..last.saturating_add(1) {
             agrees = agrees && self.gives(rt, peer, number);
         }
         agrees
-    }
-
-    // Whether the end towards a neighbour gets these numbers in turn, or none.
-    fn gives_words(&mut self, rt: &impl Abort, words: &str) -> bool {
-        let (peer, numbers) = cut(rt, words);
-        if numbers == "none" {
-            return self.has_none(rt, neighbour(peer));
-        }
-        self.gives_all(rt, neighbour(peer), range_of(rt, numbers))
     }
 
     // The end that owns the label with this number lets it go; whether none owns it then.
@@ -91,7 +83,8 @@ impl Labels {
     }
 
     // The same of the numbers from one down to another, in turn.
-    fn loses_all(&mut self, rt: &impl Abort, (first, last): (u32, u32)) -> bool {
+    fn loses_all(&mut self, rt: &impl Abort, words: &str) -> bool {
+        let (first, last) = range_of(rt, words);
         let mut agrees = true;
         for number in (last..first.saturating_add(1)).rev() {
             agrees = agrees && self.loses(rt, number);
@@ -104,12 +97,6 @@ impl Labels {
         for _tick in 0..count {
             self.space.tick();
         }
-        true
-    }
-
-    // A connection with the neighbour begins.
-    fn meets(&mut self, peer: EdgeId) -> bool {
-        self.space.met(peer);
         true
     }
 
@@ -132,9 +119,12 @@ impl Labels {
     // `ticks` pass; the edge `restarts`; the `next` number is this one; one is `unowned`, or the end towards a neighbour `owns` it.
     fn does(&mut self, rt: &impl Abort, letter: u8, more: &str) -> bool {
         match letter {
-            b'g' => self.gives_words(rt, more),
-            b'l' => self.loses_all(rt, range_of(rt, more)),
-            b'm' => self.meets(neighbour(more)),
+            b'g' => self.gives_all(rt, more),
+            b'l' => self.loses_all(rt, more),
+            b'm' => {
+                self.space.met(neighbour(more));
+                true
+            }
             b't' => self.ticks(number_of(rt, more)),
             b'r' => self.restarts(),
             b'n' => self.space.next_number() == number_of(rt, more),
@@ -152,35 +142,18 @@ fn range_of(rt: &impl Abort, words: &str) -> (u32, u32) {
     }
 }
 
-// A new label space takes the place of this one; its first number is this one.
-fn begins(rt: &impl Abort, alloc: Global, labels: &mut Labels, first: u32) -> bool {
-    *labels = Labels::open(rt, alloc, first).expect(rt, "memory");
-    true
-}
-
-// A line is words for a reader, which end in a full stop, or a step that comes to what it says, or it begins `anew`.
-fn read_line(rt: &impl Abort, alloc: Global, labels: &mut Labels, line: &str) -> bool {
+// A line is words for a reader, which end in a full stop, or a step that comes to what it says, or a label space with this first number
+// takes the place of the one before (`anew`).
+fn read_line(rt: &impl Abort, alloc: Global, labels: &mut Labels, line: &str) {
     if line.is_empty() || line.ends_with('.') {
-        return true;
+        return;
     }
     let (letter, more) = event_of(rt, line);
-    match letter {
-        b'a' => begins(rt, alloc, labels, number_of(rt, more)),
-        _ => labels.does(rt, letter, more),
-    }
-}
-
-// A line comes to what it says.
-fn reads(rt: &impl Abort, alloc: Global, labels: &mut Labels, line: &str) {
-    let agrees = read_line(rt, alloc, labels, line.trim());
-    assert!(rt; agrees, "{line}");
-}
-
-// Each line of a script comes to what it says.
-fn plays(rt: &impl Abort, alloc: Global, script: &str) {
-    let mut labels = Labels::open(rt, alloc, 16).expect(rt, "memory");
-    for line in script.lines() {
-        reads(rt, alloc, &mut labels, line);
+    if letter == b'a' {
+        *labels = Labels::open(rt, alloc, number_of(rt, more)).expect(rt, "memory");
+    } else {
+        let agrees = labels.does(rt, letter, more);
+        assert!(rt; agrees, "{line}");
     }
 }
 
@@ -306,5 +279,8 @@ const STEPS: &str = "
 
 #[test]
 fn gives_numbers_as_they_are_free(rt: HostRuntime) {
-    plays(&rt, rt.alloc(), STEPS);
+    let mut labels = Labels::open(&rt, rt.alloc(), 16).expect(&rt, "memory");
+    for line in STEPS.lines() {
+        read_line(&rt, rt.alloc(), &mut labels, line.trim());
+    }
 }

@@ -4,7 +4,7 @@ ghost use Rattle.ldp_stream.specs.Seen.{HasNext};
 
 use crate::hex::octets_of;
 use crate::words::is_told;
-use ldp_codec::{MessageView, Part};
+use ldp_codec::MessageView;
 use ldp_stream::Stream;
 use std::alloc::Global;
 use std::process::Abort;
@@ -22,19 +22,14 @@ const INITIALIZATION: &str =
 const INITIALIZATION_WORDS: &str =
     "Ok(Some(Pdu { id: LdpId { router: Addr([10, 0, 0, 2]), space: 0 }, messages: List { items: [Initialization { id: 1, params: SessionParams { version: 1, keepalive: 180, demand: false, loops: false, limit: 0, max_pdu: 4096, receiver: LdpId { router: Addr([10, 0, 0, 1]), space: 0 } } }] } }))";
 
-// Whether more octets are wanted before a PDU is lent.
-fn waits(stream: &Stream) -> bool {
-    match stream.peek() {
-        Ok(None) => true,
-        _ => false,
-    }
-}
-
 // Octets come one by one, and before each of them nothing is lent.
 fn comes(rt: &impl Abort, stream: &mut Stream, octets: &[u8]) {
     for octet in octets {
-        assert!(rt; waits(stream));
-        assert!(rt; stream.feed(&[*octet]) == 1);
+        let waits = match stream.peek() {
+            Ok(None) => true,
+            _ => false,
+        };
+        assert!(rt; waits && stream.feed(&[*octet]) == 1);
     }
 }
 
@@ -58,11 +53,6 @@ fn is_keep_alive(message: &MessageView<'_>) -> bool {
         && message.value(0x0500).is_none()
 }
 
-// Whether the parameters of the Initialization are lent.
-fn are_parameters(value: Part<'_>) -> bool {
-    value.len() == 14 && value.two(2) == 180 && value.byte(8) == 10 && value.four(8) == 0x0a00_0001
-}
-
 // A KeepAlive is lent.
 fn lends_keep_alive(rt: &impl Abort, stream: &Stream) {
     let message = only_message(stream).expect(rt, "a message");
@@ -74,7 +64,8 @@ fn lends_parameters(rt: &impl Abort, stream: &Stream) -> usize {
     let message = only_message(stream).expect(rt, "a message");
     assert!(rt; !message.is_keep_alive() && message.value(0x0100).is_none());
     let value = message.value(0x0500).expect(rt, "parameters");
-    assert!(rt; are_parameters(value));
+    assert!(rt; value.len() == 14 && value.two(2) == 180);
+    assert!(rt; value.byte(8) == 10 && value.four(8) == 0x0a00_0001);
     if value.as_slice().is_some() { 0 } else { 1 }
 }
 
@@ -94,12 +85,6 @@ fn give_up(rt: &impl Abort, stream: &mut Stream) {
     stream.pass();
 }
 
-// The next PDU is the Initialization.
-fn owns_parameters(rt: &impl Abort, alloc: Global, stream: &mut Stream) {
-    let next = stream.next(alloc);
-    is_told(rt, alloc, &next, INITIALIZATION_WORDS);
-}
-
 // A KeepAlive comes and is given up, and an Initialization comes and is taken; whether its parameters lie in two pieces.
 fn turns(rt: &impl Abort, alloc: Global, stream: &mut Stream, alive: &[u8], begun: &[u8]) -> usize {
     comes(rt, stream, alive);
@@ -107,7 +92,8 @@ fn turns(rt: &impl Abort, alloc: Global, stream: &mut Stream, alive: &[u8], begu
     give_up(rt, stream);
     comes(rt, stream, begun);
     let parted = lends_parameters(rt, stream);
-    owns_parameters(rt, alloc, stream);
+    let next = stream.next(alloc);
+    is_told(rt, alloc, &next, INITIALIZATION_WORDS);
     parted
 }
 
@@ -137,16 +123,13 @@ fn goes_on(rt: &impl Abort, alloc: Global, stream: &mut Stream) {
 }
 
 // The parameters, 14 octets, lie in two pieces where they begin at one of the last 13 places.
-fn goes_round_twice(rt: &impl Abort, alloc: Global, stream: &mut Stream) {
-    let even = goes_round(rt, alloc, stream);
-    goes_on(rt, alloc, stream);
-    let odd = goes_round(rt, alloc, stream);
-    assert!(rt; even == 6 && odd == 7);
-    assert!(rt; stream.held() == 0);
-}
-
 #[test]
 fn lends_at_each_place(rt: HostRuntime) {
-    let mut stream = Stream::new(rt.alloc()).expect(&rt, "memory");
-    goes_round_twice(&rt, rt.alloc(), &mut stream);
+    let alloc = rt.alloc();
+    let mut stream = Stream::new(alloc).expect(&rt, "memory");
+    let even = goes_round(&rt, alloc, &mut stream);
+    goes_on(&rt, alloc, &mut stream);
+    let odd = goes_round(&rt, alloc, &mut stream);
+    assert!(rt; even == 6 && odd == 7);
+    assert!(rt; stream.held() == 0);
 }

@@ -2,7 +2,7 @@
 
 use crate::hex::octets_of;
 use crate::rows::{About, reads_as};
-use crate::steps::{event_of, number, rows_in};
+use crate::steps::{event_of, number};
 use crate::words::is_told;
 use ldp_codec::{DecodeFault, decode_pdu};
 use ldp_grammar::{LdpId, Message, Pdu};
@@ -59,24 +59,19 @@ fn hear(session: Session, pdu: &Pdu) -> (Session, Replies) {
     }
 }
 
-// Octets come: a PDU with one message, or what is no PDU.
-fn receive(rt: &impl Abort, alloc: Global, session: Session, octets: &[u8]) -> (Session, Replies) {
-    match decode_pdu(alloc, octets, 4096) {
+// Octets come: a PDU with one message, or what is no PDU. The session begins where there are none.
+fn comes(rt: &impl Abort, alloc: Global, session: Session, digits: &str) -> (Session, Replies) {
+    if digits.is_empty() {
+        return session.start();
+    }
+    let octets = octets_of(rt, alloc, digits);
+    match decode_pdu(alloc, octets.as_slice(), 4096) {
         Ok(pdu) => hear(session, &pdu),
         Err(fault) => {
             assert!(rt; fault != DecodeFault::NoMemory);
             session.refused(fault)
         }
     }
-}
-
-// Octets come, or the session begins where there are none.
-fn comes(rt: &impl Abort, alloc: Global, session: Session, digits: &str) -> (Session, Replies) {
-    if digits.is_empty() {
-        return session.start();
-    }
-    let octets = octets_of(rt, alloc, digits);
-    receive(rt, alloc, session, octets.as_slice())
 }
 
 // So many ticks pass; what the last of them brings about.
@@ -86,12 +81,6 @@ fn pass(session: Session, count: usize) -> (Session, Replies) {
         session = session.tick().0;
     }
     session.tick()
-}
-
-// A PDU of 10.0.0.1:0 or of 10.0.0.2:0 is heard.
-fn hear_of(session: Session, last: usize) -> (Session, Replies) {
-    let router = Addr([10, 0, 0, (last % 256) as u8]);
-    session.heard(LdpId { router, space: 0 })
 }
 
 // What an event brings about, which the first letter of its name tells: a session `begins`; so many `ticks` pass, or something is
@@ -109,45 +98,25 @@ fn take(
         b'b' => session.start(),
         b't' => pass(session, number(rt, more)),
         b'w' => pass(session.spoke(), number(rt, more)),
-        b'h' => hear_of(session, number(rt, more)),
+        b'h' => {
+            let router = Addr([10, 0, 0, (number(rt, more) % 256) as u8]);
+            session.heard(LdpId { router, space: 0 })
+        }
         b'l' => session.closed(Reason::Closed).start(),
         b'f' => session.closed(Reason::LinkFault).start(),
         _ => comes(rt, alloc, session, more),
     }
 }
 
-// The words tell the state of a session, its hold time and the longest PDU where it stands, and the two messages that it puts.
-fn tells(rt: &impl Abort, alloc: Global, session: &Session, replies: Replies, words: &str) {
-    let terms = (session.state(), session.hold(), session.max_pdu());
-    let told = (terms.0, terms.1, terms.2, replies.get(0), replies.get(1));
-    is_told(rt, alloc, &told, words);
-}
-
-// A session takes an event, which brings about what the words tell.
+// A session takes an event. The words tell the state in which it is then, its hold time and the longest PDU where it stands, and the two
+// messages that it puts.
 fn step(rt: &impl Abort, alloc: Global, session: Session, event: &str, words: &str) -> Session {
     let (letter, more) = event_of(rt, event);
     let (next, replies) = take(rt, alloc, session_of(session, letter), letter, more);
-    tells(rt, alloc, &next, replies, words);
+    let terms = (next.state(), next.hold(), next.max_pdu());
+    let told = (terms.0, terms.1, terms.2, replies.get(0), replies.get(1));
+    is_told(rt, alloc, &told, words);
     next
-}
-
-// A session takes the event of a line, where it is a row.
-fn read_line(rt: &impl Abort, alloc: Global, session: Session, line: &str) -> Session {
-    match line.split_once("= ") {
-        Some((event, words)) => step(rt, alloc, session, event.trim(), words),
-        None => session,
-    }
-}
-
-// A session takes the events of so many rows of a script. Each brings about what stands behind `= `.
-fn plays(rt: &impl Abort, alloc: Global, script: &str, count: usize) {
-    let mut session = accepted();
-    let mut rows: usize = 0;
-    for line in script.lines() {
-        session = read_line(rt, alloc, session, line);
-        rows = rows.saturating_add(rows_in(line));
-    }
-    assert!(rt; rows == count);
 }
 
 // What comes to a session in each state: the table of states, row by row. Then a session that comes up at both ends, and ends
@@ -296,7 +265,15 @@ const EVENTS: &str = "
 
 #[test]
 fn follows_the_table_of_states(rt: HostRuntime) {
-    plays(&rt, rt.alloc(), EVENTS, 113);
+    let mut session = accepted();
+    let mut rows: usize = 0;
+    for line in EVENTS.lines() {
+        if let Some((event, words)) = line.split_once("= ") {
+            session = step(&rt, rt.alloc(), session, event.trim(), words);
+            rows = rows.saturating_add(1);
+        }
+    }
+    assert!(rt; rows == 113);
 }
 
 // The Initializations of both ends, as a table of PDUs.

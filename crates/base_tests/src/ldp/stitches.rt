@@ -132,16 +132,11 @@ fn behind(rt: &impl Abort, points: &[Point]) -> Told {
     content
 }
 
-// B accepts a content with these points, or does not.
-fn are_accepted(rt: &impl Abort, points: &[Point], want: bool) {
-    accept(rt, &behind(rt, points), &[(B, want)]);
-}
-
 #[test]
 fn accepts_two_other_points(rt: HostRuntime) {
     assert!(rt; read_point(&POINT) == Ok(AT_B));
     for (points, want) in POINTS.as_slice() {
-        are_accepted(&rt, points, *want);
+        accept(&rt, &behind(&rt, points), &[(B, *want)]);
     }
 }
 
@@ -202,12 +197,6 @@ fn swaps(rt: &impl Abort, stitch: &Stitch, rows: &[Swap], status: u32) {
     assert!(rt; passes && !stitch.takes(label(rt, 500)));
 }
 
-// The end behind a switching point is new.
-fn unbound(mut stitch: Stitch) -> Stitch {
-    drop(stitch.replace(Side::After, PwEnd::Idle(PwIdle::new())));
-    stitch
-}
-
 const CAUSES: [(SwapDrop, DropCause); 2] = [
     (SwapDrop::NoBinding, DropCause::NoBinding),
     (SwapDrop::Expired, DropCause::Expired),
@@ -215,9 +204,10 @@ const CAUSES: [(SwapDrop, DropCause); 2] = [
 
 #[test]
 fn passes_packets_both_ways(rt: HostRuntime) {
-    let stitch = through(&rt);
+    let mut stitch = through(&rt);
     swaps(&rt, &stitch, SWAPS.as_slice(), 0x20);
-    swaps(&rt, &unbound(stitch), UNBOUND.as_slice(), 0);
+    drop(stitch.replace(Side::After, PwEnd::Idle(PwIdle::new())));
+    swaps(&rt, &stitch, UNBOUND.as_slice(), 0);
     for (swap, cause) in CAUSES.as_slice() {
         assert!(rt; swap.cause() == *cause);
     }
@@ -235,17 +225,13 @@ fn differs(rt: &impl Abort, content: &Told, want: bool) {
     assert!(rt; is_same_but_status(&told(rt, 0), content) != want);
 }
 
-// The same without an MTU.
-fn without_mtu(content: Told) -> Told {
-    Told {
-        mtu: None,
-        ..content
-    }
-}
-
 #[test]
 fn tells_a_status_from_a_mapping(rt: HostRuntime) {
+    let without_mtu = Told {
+        mtu: None,
+        ..told(&rt, 0)
+    };
     differs(&rt, &told(&rt, 1), false);
-    differs(&rt, &without_mtu(told(&rt, 0)), true);
+    differs(&rt, &without_mtu, true);
     differs(&rt, &passed(&rt, told(&rt, 0), B, C), true);
 }

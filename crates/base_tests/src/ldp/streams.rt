@@ -51,12 +51,6 @@ fn limit(rt: &impl Abort, stream: &mut Stream, max: usize) -> usize {
     max
 }
 
-// A new stream takes the place of this one; how many octets it holds.
-fn begin_anew(rt: &impl Abort, alloc: Global, stream: &mut Stream) -> usize {
-    *stream = Stream::new(alloc).expect(rt, "memory");
-    stream.held()
-}
-
 // The number that comes of a step: of octets (`feed`) or of so many `zeros`, those that are taken; the `max` of a PDU Length;
 // and else how many octets are held, also of a stream that is made `anew`.
 fn count_of(rt: &impl Abort, alloc: Global, stream: &mut Stream, letter: u8, more: &str) -> usize {
@@ -64,28 +58,21 @@ fn count_of(rt: &impl Abort, alloc: Global, stream: &mut Stream, letter: u8, mor
         b'f' => feed(rt, alloc, stream, more),
         b'z' => feed_zeros(stream, number(rt, more)),
         b'm' => limit(rt, stream, number(rt, more)),
-        b'a' => begin_anew(rt, alloc, stream),
+        b'a' => {
+            *stream = Stream::new(alloc).expect(rt, "memory");
+            stream.held()
+        }
         _ => stream.held(),
     }
 }
 
 // Octets come one by one, and each is taken. Before it the next PDU has these words.
-fn feed_singly(rt: &impl Abort, alloc: Global, stream: &mut Stream, octets: &[u8], words: &str) {
-    for octet in octets {
+fn feed_singly(rt: &impl Abort, alloc: Global, stream: &mut Stream, digits: &str, words: &str) {
+    let octets = octets_of(rt, alloc, digits);
+    for octet in octets.as_slice() {
         is_next(rt, alloc, stream, words);
         feed_whole(rt, stream, &[*octet]);
     }
-}
-
-fn comes_singly(rt: &impl Abort, alloc: Global, stream: &mut Stream, digits: &str, words: &str) {
-    let octets = octets_of(rt, alloc, digits);
-    feed_singly(rt, alloc, stream, octets.as_slice(), words);
-}
-
-// A number comes of a step.
-fn counts(rt: &impl Abort, alloc: Global, stream: &mut Stream, step: (u8, &str), want: &str) {
-    let count = count_of(rt, alloc, stream, step.0, step.1);
-    assert!(rt; count == number(rt, want), "{want}");
 }
 
 // A step comes to what stands behind it: the words of the `next` PDU, those of the next PDU while octets come `singly`, or a
@@ -94,34 +81,23 @@ fn take(rt: &impl Abort, alloc: Global, stream: &mut Stream, step: &str, want: &
     let (letter, more) = event_of(rt, step);
     match letter {
         b'n' => is_next(rt, alloc, stream, want),
-        b's' => comes_singly(rt, alloc, stream, more, want),
-        _ => counts(rt, alloc, stream, (letter, more), want),
-    }
-}
-
-// A stream takes the step of a line, where it is a row; how many rows it is.
-fn read_line(rt: &impl Abort, alloc: Global, stream: &mut Stream, line: &str) -> usize {
-    match line.split_once("= ") {
-        Some((step, want)) => {
-            take(rt, alloc, stream, step.trim(), want);
-            1
+        b's' => feed_singly(rt, alloc, stream, more, want),
+        _ => {
+            let count = count_of(rt, alloc, stream, letter, more);
+            assert!(rt; count == number(rt, want), "{want}");
         }
-        None => 0,
     }
 }
 
-// A stream takes the steps of a script; how many they are.
-fn play(rt: &impl Abort, alloc: Global, stream: &mut Stream, script: &str) -> usize {
+// A stream takes the steps of a script, which are so many: each line with `= ` is one.
+fn goes_through(rt: &impl Abort, alloc: Global, stream: &mut Stream, script: &str, count: usize) {
     let mut rows: usize = 0;
     for line in script.lines() {
-        rows = rows.saturating_add(read_line(rt, alloc, stream, line));
+        if let Some((step, want)) = line.split_once("= ") {
+            take(rt, alloc, stream, step.trim(), want);
+            rows = rows.saturating_add(1);
+        }
     }
-    rows
-}
-
-// All steps of a script, which are so many, are taken.
-fn goes_through(rt: &impl Abort, alloc: Global, stream: &mut Stream, script: &str, count: usize) {
-    let rows = play(rt, alloc, stream, script);
     assert!(rt; rows == count);
 }
 
@@ -208,28 +184,18 @@ fn ended_within(count: usize) -> usize
     }
 }
 
-// The words of the PDUs that end within so many octets, and those of the others.
-fn words_at(count: usize) -> (&'static [&'static str], &'static [&'static str]) {
-    PDUS.split_at(ended_within(count))
-}
-
-// The next PDUs have these words.
-fn are_next(rt: &impl Abort, alloc: Global, stream: &mut Stream, pdus: &[&str]) {
-    for words in pdus {
-        is_next(rt, alloc, stream, words);
-    }
-}
-
 // Octets come, and all are taken; the next PDUs have then these words, and then there is none.
 fn goes_on(rt: &impl Abort, alloc: Global, stream: &mut Stream, octets: &[u8], pdus: &[&str]) {
     feed_whole(rt, stream, octets);
-    are_next(rt, alloc, stream, pdus);
+    for words in pdus {
+        is_next(rt, alloc, stream, words);
+    }
     is_next(rt, alloc, stream, "Ok(None)");
 }
 
 // Two PDUs that come in these two pieces.
 fn takes(rt: &impl Abort, alloc: Global, stream: &mut Stream, front: &[u8], back: &[u8]) {
-    let (first, second) = words_at(front.len());
+    let (first, second) = PDUS.split_at(ended_within(front.len()));
     goes_on(rt, alloc, stream, front, first);
     goes_on(rt, alloc, stream, back, second);
     assert!(rt; stream.held() == 0);
@@ -242,19 +208,13 @@ fn is_cut(rt: &impl Abort, alloc: Global, octets: &[u8], at: usize) {
     takes(rt, alloc, &mut stream, front, back);
 }
 
-// 40 octets that are cut at each place.
-fn is_cut_at_each(rt: &impl Abort, alloc: Global, octets: &[u8]) {
-    assert!(rt; octets.len() == 40);
-    for at in 0..41 {
-        is_cut(rt, alloc, octets, at);
-    }
-}
-
 #[test]
 fn answers_the_same_of_each_cut(rt: HostRuntime) {
     let octets = octets_of(&rt, rt.alloc(), TWO);
-    is_cut_at_each(&rt, rt.alloc(), octets.as_slice());
-    drop(octets);
+    assert!(rt; octets.len() == 40);
+    for at in 0..41 {
+        is_cut(&rt, rt.alloc(), octets.as_slice(), at);
+    }
 }
 
 // The first octets of a PDU.
@@ -277,16 +237,13 @@ const LAST_PDU: &str = "
 ";
 
 // The front of a PDU, 500 times the rest of one and the front of the next, and a PDU that is refused.
-fn goes_past_its_room(rt: &impl Abort, alloc: Global, stream: &mut Stream) {
-    goes_through(rt, alloc, stream, FRONT, 1);
-    for _pdu in 0..500 {
-        goes_through(rt, alloc, stream, EACH_PDU, 4);
-    }
-    goes_through(rt, alloc, stream, LAST_PDU, 4);
-}
-
 #[test]
 fn goes_on_past_its_room(rt: HostRuntime) {
-    let mut stream = Stream::new(rt.alloc()).expect(&rt, "memory");
-    goes_past_its_room(&rt, rt.alloc(), &mut stream);
+    let alloc = rt.alloc();
+    let mut stream = Stream::new(alloc).expect(&rt, "memory");
+    goes_through(&rt, alloc, &mut stream, FRONT, 1);
+    for _pdu in 0..500 {
+        goes_through(&rt, alloc, &mut stream, EACH_PDU, 4);
+    }
+    goes_through(&rt, alloc, &mut stream, LAST_PDU, 4);
 }

@@ -3,11 +3,11 @@ ghost use Rattle.std.specs.Prelude.{◌≤◌, length};
 
 use crate::rows::{About, reads_as};
 use crate::words::{is_front, is_told, says};
-use net_base::{Field, List, Mac};
+use net_base::Field;
 use pw_tlvs::{
-    FecValue, FieldFault, MacsFault, Point, Points, PwFec, PwStatus, fec_size, is_writable_fec,
-    macs_size, point_size, read_fec, read_macs, read_point, read_status, write_fec, write_macs,
-    write_point, write_status,
+    FecValue, FieldFault, MacsFault, Point, Points, fec_size, is_writable_fec, macs_size,
+    point_size, read_fec, read_macs, read_point, read_status, write_fec, write_macs, write_point,
+    write_status,
 };
 use std::alloc::Global;
 use std::process::Abort;
@@ -90,36 +90,9 @@ const MACS: &str = "
     020000000001 02 = Err(Field(Size))
 ";
 
-// The element is written as these octets.
-fn writes_fec(rt: &impl Abort, fec: &PwFec, octets: &[u8]) {
-    let mut out = [0xee; 28];
-    assert!(rt; is_writable_fec(fec));
-    assert!(rt; fec_size(fec) == octets.len() && octets.len() <= 28);
-    let count = write_fec(fec, &mut out);
-    assert!(rt; count == octets.len() && is_front(&out, octets));
-}
-
-// The point is written as these octets.
-fn writes_point(rt: &impl Abort, point: &Point, octets: &[u8]) {
-    let mut out = [0xee; 28];
-    assert!(rt; point_size(point) == octets.len());
-    let count = write_point(point, &mut out);
-    assert!(rt; count == octets.len() && is_front(&out, octets));
-}
-
-// The status is written as these octets.
-fn writes_status(rt: &impl Abort, status: PwStatus, octets: &[u8]) {
-    let mut out = [0xee; 28];
-    let count = write_status(status, &mut out);
-    assert!(rt; count == octets.len() && is_front(&out, octets));
-}
-
-// The addresses are written as these octets.
-fn writes_macs(rt: &impl Abort, list: &List<Mac>, octets: &[u8]) {
-    let mut out = [0xee; 28];
-    assert!(rt; macs_size(list) == octets.len() && octets.len() <= 28);
-    let count = write_macs(list, &mut out);
-    assert!(rt; count == octets.len() && is_front(&out, octets));
+// So many octets were written, which are these.
+fn are_written(rt: &impl Abort, out: &[u8; 28], count: usize, octets: &[u8]) {
+    assert!(rt; count == octets.len() && is_front(out, octets));
 }
 
 // The octets are this FEC; where it is a written one, it is written as these octets again.
@@ -129,7 +102,11 @@ fn is_fec(rt: &impl Abort, alloc: Global, about: About, octets: &[u8], words: &s
     let read = read_fec(octets);
     is_told(rt, alloc, &read, words);
     if let (About::WrittenFecs, Ok(FecValue::Pw(fec))) = (about, read) {
-        writes_fec(rt, &fec, octets);
+        let mut out = [0xee; 28];
+        assert!(rt; is_writable_fec(&fec));
+        assert!(rt; fec_size(&fec) == octets.len() && octets.len() <= 28);
+        let count = write_fec(&fec, &mut out);
+        are_written(rt, &out, count, octets);
     }
 }
 
@@ -139,7 +116,10 @@ fn is_point(rt: &impl Abort, alloc: Global, octets: &[u8], words: &str)
     let read = read_point(octets);
     is_told(rt, alloc, &read, words);
     if let Ok(point) = read {
-        writes_point(rt, &point, octets);
+        let mut out = [0xee; 28];
+        assert!(rt; point_size(&point) == octets.len());
+        let count = write_point(&point, &mut out);
+        are_written(rt, &out, count, octets);
     }
 }
 
@@ -149,7 +129,9 @@ fn is_status(rt: &impl Abort, alloc: Global, octets: &[u8], words: &str)
     let read = read_status(octets);
     is_told(rt, alloc, &read, words);
     if let Ok(status) = read {
-        writes_status(rt, status, octets);
+        let mut out = [0xee; 28];
+        let count = write_status(status, &mut out);
+        are_written(rt, &out, count, octets);
     }
 }
 
@@ -159,7 +141,10 @@ fn are_macs(rt: &impl Abort, alloc: Global, octets: &[u8], words: &str)
     let read = read_macs(alloc, octets);
     is_told(rt, alloc, &read, words);
     if let Ok(list) = &read {
-        writes_macs(rt, list, octets);
+        let mut out = [0xee; 28];
+        assert!(rt; macs_size(list) == octets.len() && octets.len() <= 28);
+        let count = write_macs(list, &mut out);
+        are_written(rt, &out, count, octets);
     }
 }
 
@@ -194,18 +179,13 @@ fn numbered(pw_id: u32) -> Point {
 }
 
 // The points 1, 2 and 3, of which none stood there before.
-fn three(rt: &impl Abort) -> Points {
+#[test]
+fn holds_points(rt: HostRuntime) {
     let mut points = Points::empty();
     assert!(rt; points.is_empty());
     points.add(numbered(1));
     points.add(numbered(2));
     points.add(numbered(3));
-    points
-}
-
-#[test]
-fn holds_points(rt: HostRuntime) {
-    let points = three(&rt);
     assert!(rt; points.len() == 3 && !points.is_empty());
     for index in 0..3u8 {
         assert!(rt; points.get(index as usize) == Some(numbered(index as u32 + 1)));

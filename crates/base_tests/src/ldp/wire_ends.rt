@@ -73,18 +73,13 @@ fn label(rt: &impl Abort, number: u32) -> Label {
     Label::new(number).expect(rt, "a label")
 }
 
-// What the peer told is bound to label 17.
-fn binding(rt: &impl Abort, told: Told) -> Binding {
-    Binding {
-        label: label(rt, 17),
-        told,
-    }
-}
-
 // Takes what came.
 fn comes(rt: &impl Abort, end: PwEnd, came: Came) -> PwEnd {
     match came {
-        Came::Mapping(c, kind, mtu) => end.on_mapping(binding(rt, told(rt, c, kind, mtu))),
+        Came::Mapping(c, kind, mtu) => end.on_mapping(Binding {
+            label: label(rt, 17),
+            told: told(rt, c, kind, mtu),
+        }),
         Came::Status(bits) => end.on_status(PwStatus(bits)),
         Came::GroupStatus(group, bits) => end.on_group_status(group, PwStatus(bits)),
         Came::Withdraw(number) => end.on_withdraw(Label::new(number)),
@@ -108,47 +103,18 @@ fn calls(rt: &impl Abort, end: PwEnd, own: Own) -> PwEnd {
     }
 }
 
-// Whether the end advertises a label with this status.
-fn advertises(end: &PwEnd, number: u32, bits: u32) -> bool {
-    match end {
-        PwEnd::Advertised(end) => {
-            end.label().number() == number && end.told().status == Some(PwStatus(bits))
-        }
-        _ => false,
-    }
-}
-
-// Whether the end has withdrawn a label.
-fn is_withdrawing(end: &PwEnd, number: u32) -> bool {
-    match end {
-        PwEnd::Withdrawing(end) => end.label().number() == number,
-        _ => false,
-    }
-}
-
-// Whether the end is idle, and declined or not.
-fn is_idle(end: &PwEnd, declined: bool) -> bool {
-    match end {
-        PwEnd::Idle(end) => end.is_declined() == declined,
-        _ => false,
-    }
-}
-
 // Whether the end is so.
 fn agrees(end: &PwEnd, is: Is) -> bool {
-    match is {
-        Is::Down(role, bits, down) => end.why_down(role, bits) == down,
-        Is::Bound(bound) => end.remote().is_some() == bound,
-        Is::Advertised(number, bits) => advertises(end, number, bits),
-        Is::Withdrawing(number) => is_withdrawing(end, number),
-        Is::Idle(declined) => is_idle(end, declined),
+    match (is, end) {
+        (Is::Down(role, bits, down), _) => end.why_down(role, bits) == down,
+        (Is::Bound(bound), _) => end.remote().is_some() == bound,
+        (Is::Advertised(number, bits), PwEnd::Advertised(end)) => {
+            end.label().number() == number && end.told().status == Some(PwStatus(bits))
+        }
+        (Is::Withdrawing(number), PwEnd::Withdrawing(end)) => end.label().number() == number,
+        (Is::Idle(declined), PwEnd::Idle(end)) => end.is_declined() == declined,
+        _ => false,
     }
-}
-
-// The end is so.
-fn finds(rt: &impl Abort, end: PwEnd, is: Is) -> PwEnd {
-    assert!(rt; agrees(&end, is));
-    end
 }
 
 // Takes a step.
@@ -156,7 +122,10 @@ fn take(rt: &impl Abort, end: PwEnd, step: Step) -> PwEnd {
     match step {
         Step::Came(came) => comes(rt, end, came),
         Step::Own(own) => calls(rt, end, own),
-        Step::Is(is) => finds(rt, end, is),
+        Step::Is(is) => {
+            assert!(rt; agrees(&end, is));
+            end
+        }
     }
 }
 

@@ -144,12 +144,6 @@ fn repeated(rt: &impl Abort, alloc: Global, front: &str, piece: &str, count: u32
     text
 }
 
-// A document of so many pieces has this fault.
-fn repeats(rt: &impl Abort, alloc: Global, front: &str, piece: &str, count: u32, words: &str) {
-    let text = repeated(rt, alloc, front, piece, count);
-    reads_octets(rt, alloc, text.as_bytes(), words);
-}
-
 // The front of a document with too many pieces, such a piece, and how many there are; and the fault.
 type Crowd = (&'static str, &'static str, u32, &'static str);
 
@@ -202,6 +196,7 @@ const CROWDS: [Crowd; 7] = [
 #[test]
 fn tells_too_many_rows_and_events(rt: HostRuntime) {
     for (front, piece, count, words) in CROWDS.as_slice() {
-        repeats(&rt, rt.alloc(), front, piece, *count, words);
+        let text = repeated(&rt, rt.alloc(), front, piece, *count);
+        reads_octets(&rt, rt.alloc(), text.as_bytes(), words);
     }
 }

@@ -38,17 +38,6 @@ fn agrees(rt: &impl Abort, alloc: Global, document: &str, words: &str, row: (&st
     reads_octets(rt, alloc, document.as_bytes(), words.as_str());
 }
 
-// A row agrees where it has words behind a text; how many rows it is.
-fn reads_row(rt: &impl Abort, alloc: Global, document: &str, words: &str, row: &str) -> usize {
-    match row.split_once(" => ") {
-        Some((text, told)) => {
-            agrees(rt, alloc, document, words, (text, told));
-            1
-        }
-        None => 0,
-    }
-}
-
 /// What stands between the rows of a table, each of which is one line or more.
 pub const LINES: &str = "\n";
 
@@ -68,7 +57,10 @@ pub fn read_as(
     let (between, text, count) = table;
     let mut rows: usize = 0;
     for row in text.split(between) {
-        rows = rows.saturating_add(reads_row(rt, alloc, document, words, row));
+        if let Some(told) = row.split_once(" => ") {
+            agrees(rt, alloc, document, words, told);
+            rows = rows.saturating_add(1);
+        }
     }
     assert!(rt; rows == count);
 }

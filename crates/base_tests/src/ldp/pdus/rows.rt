@@ -4,7 +4,7 @@ ghost use Rattle.ldp_grammar.specs.Written.{address_octets, list_length, mac_cou
 
 use crate::rows::About;
 use crate::words::{is_front, is_told};
-use ldp_codec::{DecodeFault, decode_pdu, encode_into, view_pdu};
+use ldp_codec::{decode_pdu, encode_into, view_pdu};
 use ldp_grammar::{AddressList, LdpId, Message, Pdu, is_writable, message_size};
 use net_base::{Addr, List, Mac};
 use std::alloc::Global;
@@ -81,15 +81,6 @@ fn is_written(rt: &impl Abort, message: &Message, octets: &[u8]) {
     assert!(rt; is_front(&out, octets));
 }
 
-// The message is written as these octets again, or cannot be written.
-fn goes_back(rt: &impl Abort, about: About, message: &Message, octets: &[u8]) {
-    match about {
-        About::BothWays => is_written(rt, message, octets),
-        About::OneWay => assert!(rt; !is_writable(message)),
-        _ => {}
-    }
-}
-
 // The message of a PDU has these words; where its sender is not 10.0.0.1:0, the whole PDU has them.
 fn has_words(rt: &impl Abort, alloc: Global, pdu: &Pdu, words: &str) {
     let message = only_message(pdu).expect(rt, "one message");
@@ -104,38 +95,32 @@ fn has_words(rt: &impl Abort, alloc: Global, pdu: &Pdu, words: &str) {
 fn is_pdu(rt: &impl Abort, alloc: Global, about: About, pdu: &Pdu, octets: &[u8], words: &str) {
     has_words(rt, alloc, pdu, words);
     let message = only_message(pdu).expect(rt, "one message");
-    goes_back(rt, about, message, octets);
-}
-
-// The PDU of octets that lie in two pieces, which meet at this place, or their fault.
-fn lent(rt: &impl Abort, alloc: Global, octets: &[u8], at: usize) -> Result<Pdu, DecodeFault> {
-    let (front, back) = octets.split_at(at.min(octets.len()));
-    match view_pdu(front, back, 4096) {
-        Ok(view) => Ok(view.read(alloc).expect(rt, "memory")),
-        Err(fault) => Err(fault),
+    match about {
+        About::BothWays => is_written(rt, message, octets),
+        About::OneWay => assert!(rt; !is_writable(message)),
+        _ => {}
     }
 }
 
-// Octets in two pieces are the message or have the fault of these words.
+// Octets that lie in two pieces, which meet at this place, are the message or have the fault of these words.
 fn is_lent(rt: &impl Abort, alloc: Global, octets: &[u8], at: usize, words: &str) {
-    match lent(rt, alloc, octets, at) {
-        Ok(pdu) => has_words(rt, alloc, &pdu, words),
+    let (front, back) = octets.split_at(at.min(octets.len()));
+    match view_pdu(front, back, 4096) {
+        Ok(view) => {
+            let pdu = view.read(alloc).expect(rt, "memory");
+            has_words(rt, alloc, &pdu, words);
+        }
         Err(fault) => is_told(rt, alloc, &fault, words),
     }
 }
 
-// The same, wherever the pieces meet.
-fn is_lent_at_each(rt: &impl Abort, alloc: Global, octets: &[u8], words: &str) {
-    for at in 0..octets.len() {
-        is_lent(rt, alloc, octets, at, words);
-    }
-}
-
-/// The octets of a row are the message or have the fault of its words, also where they lie in two pieces.
+/// The octets of a row are the message or have the fault of its words, also where they lie in two pieces, wherever those meet.
 pub fn agrees(rt: &impl Abort, alloc: Global, about: About, octets: &[u8], words: &str) {
     match decode_pdu(alloc, octets, 4096) {
         Ok(pdu) => is_pdu(rt, alloc, about, &pdu, octets, words),
         Err(fault) => is_told(rt, alloc, &fault, words),
     }
-    is_lent_at_each(rt, alloc, octets, words);
+    for at in 0..octets.len() {
+        is_lent(rt, alloc, octets, at, words);
+    }
 }

@@ -3,7 +3,6 @@
 use ldp_grammar::{Message, StatusCode, is_writable};
 use net_base::{Label, List, Text};
 use pw_tlvs::{IfParams, Points, PwFec, is_writable_fec};
-use std::alloc::Global;
 use std::process::Abort;
 
 // A PWid element of this PW type, with a PW ID, an MTU and a VLAN ID where they are told, and whether it can be written.
@@ -46,17 +45,6 @@ fn request(fec: PwFec) -> Message {
     Message::LabelRequest { id: 8, fec }
 }
 
-// A Label Mapping of an element.
-fn mapping(rt: &impl Abort, fec: PwFec) -> Message {
-    Message::LabelMapping {
-        id: 1,
-        fec,
-        label: Label::new(16).expect(rt, "a label"),
-        pw_status: None,
-        points: Points::empty(),
-    }
-}
-
 // The message can be written or not.
 fn is_writable_as(rt: &impl Abort, message: Message, can: bool) {
     assert!(rt; is_writable(&message) == can);
@@ -66,7 +54,14 @@ fn is_writable_as(rt: &impl Abort, message: Message, can: bool) {
 fn agrees(rt: &impl Abort, fec: PwFec, can: bool) {
     assert!(rt; is_writable_fec(&fec) == can);
     is_writable_as(rt, request(fec), can);
-    is_writable_as(rt, mapping(rt, fec), can && fec.pw_id.is_some());
+    let mapping = Message::LabelMapping {
+        id: 1,
+        fec,
+        label: Label::new(16).expect(rt, "a label"),
+        pw_status: None,
+        points: Points::empty(),
+    };
+    is_writable_as(rt, mapping, can && fec.pw_id.is_some());
 }
 
 #[test]
@@ -74,25 +69,6 @@ fn tells_which_fecs_can_be_written(rt: HostRuntime) {
     for row in ROWS.as_slice() {
         agrees(&rt, element(&rt, *row, false, 0), row.4);
         agrees(&rt, element(&rt, *row, true, 7), row.4);
-    }
-}
-
-// No MAC list is withdrawn with the element, which is one of a group.
-fn withdraws(fec: PwFec) -> Message {
-    Message::AddressWithdraw {
-        id: 1,
-        addresses: None,
-        fec: Some(fec),
-        macs: None,
-    }
-}
-
-// A part of an address.
-fn part_of_address(rt: &impl Abort, alloc: Global) -> Message {
-    Message::Address {
-        id: 1,
-        family: 1,
-        octets: List::from_bytes(alloc, &[10, 0, 0]).expect(rt, "memory"),
     }
 }
 
@@ -105,27 +81,29 @@ const LONG_DATA: StatusCode = StatusCode {
     kind: 0,
 };
 
-// A Notification of a status.
-fn notification(status: StatusCode) -> Message {
-    Message::Notification {
-        id: 1,
-        status,
-        pw_status: None,
-        fec: None,
-    }
-}
-
+// A withdrawal without a MAC list, of an element of a group; a part of an address; and a Notification of a status that is too long.
 #[test]
 fn writes_no_half_messages(rt: HostRuntime) {
-    is_writable_as(&rt, withdraws(element(&rt, ROWS[8], true, 7)), false);
-    is_writable_as(&rt, part_of_address(&rt, rt.alloc()), false);
-    is_writable_as(&rt, notification(LONG_DATA), false);
-}
-
-// A message has this Message ID and this type.
-fn is_named(rt: &impl Abort, message: Message, id: u32, kind: u16) {
-    let name = (message.id(), message.message_type());
-    assert!(rt; name == (id, kind));
+    let withdraw = Message::AddressWithdraw {
+        id: 1,
+        addresses: None,
+        fec: Some(element(&rt, ROWS[8], true, 7)),
+        macs: None,
+    };
+    is_writable_as(&rt, withdraw, false);
+    let address = Message::Address {
+        id: 1,
+        family: 1,
+        octets: List::from_bytes(rt.alloc(), &[10, 0, 0]).expect(&rt, "memory"),
+    };
+    is_writable_as(&rt, address, false);
+    let notification = Message::Notification {
+        id: 1,
+        status: LONG_DATA,
+        pw_status: None,
+        fec: None,
+    };
+    is_writable_as(&rt, notification, false);
 }
 
 // Of a message whose description is empty.
@@ -133,5 +111,6 @@ fn is_named(rt: &impl Abort, message: Message, id: u32, kind: u16) {
 fn tells_the_id_and_the_type(rt: HostRuntime) {
     let fec = element(&rt, ROWS[8], true, 7);
     assert!(rt; fec.params.description.is_empty());
-    is_named(&rt, request(fec), 8, 0x0401);
+    let message = request(fec);
+    assert!(rt; (message.id(), message.message_type()) == (8, 0x0401));
 }
