@@ -28,21 +28,16 @@ fn push_digits(rt: &impl Abort, octets: &mut Vec<u8>, text: &str) {
     }
 }
 
-// Adds the addresses of so many stations at the end, from 02:00:00:00:00:01 on.
-fn push_stations(rt: &impl Abort, octets: &mut Vec<u8>, count: u8) {
-    for number in 0..count {
-        let station = [2, 0, 0, 0, 0, number + 1];
-        octets.extend_from_slice(&station).expect(rt, "memory");
-    }
-}
-
 /// Adds the octets of pairs of hexadecimal digits at the end, and behind `*30`, which a text may end with, the addresses of 30 stations,
 /// from 02:00:00:00:00:01 on; what else is no digit is passed over.
 pub fn push_octets(rt: &impl Abort, octets: &mut Vec<u8>, text: &str) {
     match text.split_once('*') {
         Some((digits, count)) => {
             push_digits(rt, octets, digits);
-            push_stations(rt, octets, count.parse::<u8>().ok().expect(rt, "a number"));
+            for number in 0..count.parse::<u8>().ok().expect(rt, "a number") {
+                let station = [2, 0, 0, 0, 0, number + 1];
+                octets.extend_from_slice(&station).expect(rt, "memory");
+            }
         }
         None => push_digits(rt, octets, text),
     }

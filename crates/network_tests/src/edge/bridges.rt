@@ -169,16 +169,12 @@ fn speaks(rt: &impl Abort, alloc: Global, side: &mut Side, number: u16) {
 }
 
 // One station more speaks than the bridge learns.
-fn fills(rt: &impl Abort, alloc: Global, side: &mut Side) {
-    for number in 0..4_097 {
-        speaks(rt, alloc, side, number);
-    }
-}
-
 #[test]
 fn learns_4096_stations(rt: HostRuntime) {
     let mut side = side_of(&rt, rt.alloc(), BRIDGES, E, 0);
-    fills(&rt, rt.alloc(), &mut side);
+    for number in 0..4_097 {
+        speaks(&rt, rt.alloc(), &mut side, number);
+    }
     play(&rt, rt.alloc(), &mut side, &IS_FULL);
     drop(side);
 }

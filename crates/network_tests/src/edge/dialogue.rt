@@ -59,16 +59,6 @@ fn hand_over(
     from.handed = count;
 }
 
-// Edges A and B connect, and hand each other what they put, in pieces of at most so many octets.
-fn talk(rt: &impl Abort, alloc: Global, one: &mut Side, other: &mut Side, size: usize) {
-    take(rt, alloc, one, Input::Connected { peer: B });
-    take(rt, alloc, other, Input::Connected { peer: A });
-    for _turn in 0..4 {
-        hand_over(rt, alloc, other, one, B, size);
-        hand_over(rt, alloc, one, other, A, size);
-    }
-}
-
 // What happens between two edges: which call of A's link fails (none for 0), what both do before they connect, how large the
 // pieces are in which they hear each other, what A does then, and what B finds once it has what A's link took.
 #[derive(Clone, Copy)]
@@ -80,11 +70,16 @@ struct Story<'a> {
     other: &'a [Step],
 }
 
-// A story goes on between edges A and B.
+// A story goes on between edges A and B: they connect, and hand each other what they put.
 fn goes_on(rt: &impl Abort, alloc: Global, one: &mut Side, other: &mut Side, story: &Story<'_>) {
     play(rt, alloc, one, story.before);
     play(rt, alloc, other, story.before);
-    talk(rt, alloc, one, other, story.size);
+    take(rt, alloc, one, Input::Connected { peer: B });
+    take(rt, alloc, other, Input::Connected { peer: A });
+    for _turn in 0..4 {
+        hand_over(rt, alloc, other, one, B, story.size);
+        hand_over(rt, alloc, one, other, A, story.size);
+    }
     play(rt, alloc, one, story.one);
     hand_over(rt, alloc, one, other, A, 4096);
     play(rt, alloc, other, story.other);

@@ -11,14 +11,6 @@ use pw_tlvs::PwStatus;
 use std::alloc::Global;
 use std::process::Abort;
 
-// The ends of the first edge of a plan.
-fn ends_of(rt: &impl Abort, alloc: Global, plan: &Plan) -> PwEnds
-    requires { IsChecked plan.now }
-{
-    assert!(rt; !plan.edges.is_empty());
-    PwEnds::open(alloc, plan, A).expect(rt, "memory")
-}
-
 // What an end tells by the offer of the first wire, which is of group 7.
 fn told(rt: &impl Abort, plan: &Plan, status: Option<PwStatus>) -> Told
     ensures kind { result.kind ≤ 0x7FFF }
@@ -31,20 +23,6 @@ fn told(rt: &impl Abort, plan: &Plan, status: Option<PwStatus>) -> Told
         ..wire.near
     };
     content_of(&offer, status)
-}
-
-// The idle end of a slot advertises; answers the number of its label, or 0 where none is left.
-fn advertised(rt: &impl Abort, ends: &mut PwEnds, slot: usize, told: &Told) -> u32
-    requires { told.now.kind ≤ 0x7FFF }
-{
-    assert!(rt; slot < ends.len());
-    match ends.end(slot) {
-        PwEnd::Idle(_) => match ends.advertise(slot, told) {
-            Some(label) => label.number(),
-            None => 0,
-        },
-        _ => 0,
-    }
 }
 
 // A label is advertised with this number by the end of this slot, or by none.
@@ -71,19 +49,14 @@ const SLOTS: [(EdgeId, u32, Option<usize>); 4] = [
     (A, 100, None),
 ];
 
-// Whether wire 1 passes the edge, wire 0 ends there, and wire 2 does not pass it.
-fn knows_wires(ends: &PwEnds) -> bool {
-    ends.passes(WireId(1)) && ends.ends_here(WireId(0)) && !ends.passes(WireId(2))
-}
-
-// Both ends are idle and are found, and the edge knows its wires.
+// Both ends are idle and are found. Wire 1 passes the edge, wire 0 ends there, and wire 2 does not pass it.
 fn stand(rt: &impl Abort, ends: &PwEnds) {
     assert!(rt; ends.len() == 2);
     assert!(rt; is_fresh(ends, 0) && is_fresh(ends, 1));
     for (peer, pw_id, slot) in SLOTS.as_slice() {
         assert!(rt; ends.find(*peer, *pw_id) == *slot);
     }
-    assert!(rt; knows_wires(ends));
+    assert!(rt; ends.passes(WireId(1)) && ends.ends_here(WireId(0)) && !ends.passes(WireId(2)));
 }
 
 // The switching point of a wire has its two ends: both ends of wire 0 are in the slots of the edge, and wire 1 has none.
@@ -99,7 +72,15 @@ fn switches(rt: &impl Abort, alloc: Global) {
 fn advertises(rt: &impl Abort, ends: &mut PwEnds, slot: usize, told: &Told, number: u32)
     requires { told.now.kind ≤ 0x7FFF }
 {
-    assert!(rt; advertised(rt, ends, slot, told) == number);
+    assert!(rt; slot < ends.len());
+    let advertised = match ends.end(slot) {
+        PwEnd::Idle(_) => match ends.advertise(slot, told) {
+            Some(label) => label.number(),
+            None => 0,
+        },
+        _ => 0,
+    };
+    assert!(rt; advertised == number);
 }
 
 // Both ends advertise, with the first two of the edge's four labels.
@@ -203,7 +184,8 @@ enum Deed {
 fn opened_do(rt: &impl Abort, alloc: Global, plan: &Plan, deed: Deed)
     requires { IsChecked plan.now }
 {
-    let mut ends = ends_of(rt, alloc, plan);
+    assert!(rt; !plan.edges.is_empty());
+    let mut ends = PwEnds::open(alloc, plan, A).expect(rt, "memory");
     match deed {
         Deed::Stand => stand(rt, &ends),
         Deed::OwnLabels => own_labels(rt, plan, &mut ends),
@@ -224,19 +206,12 @@ const DEEDS: [Deed; 6] = [
     Deed::HoldABinding,
 ];
 
-// The ends of the first edge of a plan do each deed, once they are opened.
-fn do_all(rt: &impl Abort, alloc: Global, plan: &Plan)
-    requires { IsChecked plan.now }
-{
-    for deed in DEEDS.iter() {
-        opened_do(rt, alloc, plan, *deed);
-    }
-}
-
 #[test]
 fn ends_stand_advertise_and_bind(rt: HostRuntime) {
     let plan = plan_of(&rt, rt.alloc(), TWO_WIRES);
-    do_all(&rt, rt.alloc(), &plan);
+    for deed in DEEDS.iter() {
+        opened_do(&rt, rt.alloc(), &plan, *deed);
+    }
     drop(plan);
     switches(&rt, rt.alloc());
 }

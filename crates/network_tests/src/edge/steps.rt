@@ -6,7 +6,7 @@ use crate::edge::side::{Side, side_of, take_often};
 use crate::octets::{is_same, octets_of};
 use edge_model::{Effect, Effects, Input};
 use net_base::{
-    Arrival, CircuitId, DropCause, EdgeId, LinkCall, MemLink, SegKey, ServiceId, StateName, WireId,
+    Arrival, CircuitId, DropCause, EdgeId, LinkCall, SegKey, ServiceId, StateName, WireId,
 };
 use provider_edge::Edge;
 use std::alloc::Global;
@@ -140,33 +140,18 @@ fn is_left(effects: &Effects, place: usize, at: u16, octets: &[u8]) -> bool {
     }
 }
 
-// Whether what was given out at a place is a packet on this wire, for a frame of a circuit.
-fn is_sent(effects: &Effects, place: usize, to: EdgeId, on: u16) -> bool {
+// What came as the packet at this place, where it was given out on this wire.
+fn sent_for(effects: &Effects, place: usize, to: EdgeId, on: u16) -> Option<Arrival> {
     match effects.list.get(place) {
         Some(
             Effect::Sent {
                 peer,
                 wire,
-                arrival: Arrival::Circuit(_),
+                arrival,
                 ..
             },
-        ) => *peer == to && wire.0 == on,
-        _ => false,
-    }
-}
-
-// Whether one packet on this wire was given out that is for no frame, and nothing else.
-fn is_echoed(effects: &Effects, to: EdgeId, on: u16) -> bool {
-    match effects.list.get(0) {
-        Some(
-            Effect::Sent {
-                peer,
-                wire,
-                arrival: Arrival::Own,
-                ..
-            },
-        ) => effects.list.len() == 1 && *peer == to && wire.0 == on,
-        _ => false,
+        ) if *peer == to && wire.0 == on => Some(*arrival),
+        _ => None,
     }
 }
 
@@ -195,8 +180,15 @@ fn agrees_in_effects(effects: &Effects, step: Step, octets: &[u8]) -> Option<boo
         Step::Gives(count) => Some(!effects.idle && effects.list.len() == count),
         Step::Told(place, state) => Some(is_told(effects, place, state)),
         Step::Left(place, circuit, _) => Some(is_left(effects, place, circuit, octets)),
-        Step::SentOn(place, peer, wire) => Some(is_sent(effects, place, peer, wire)),
-        Step::Echoed(peer, wire) => Some(is_echoed(effects, peer, wire)),
+        Step::SentOn(place, peer, wire) => {
+            Some(matches!(
+                sent_for(effects, place, peer, wire),
+                Some(Arrival::Circuit(_))
+            ))
+        }
+        Step::Echoed(peer, wire) => Some(
+            effects.list.len() == 1 && sent_for(effects, 0, peer, wire) == Some(Arrival::Own),
+        ),
         Step::Ponged(wire, sequence) => Some(is_ponged(effects, wire, sequence)),
         Step::Dropped(cause) => Some(effects.list.len() == 1 && is_dropped(effects, 0, cause)),
         Step::DroppedAt(place, cause) => Some(is_dropped(effects, place, cause)),
@@ -211,17 +203,6 @@ fn is_call(call: Option<&LinkCall>, peer: EdgeId, packet: bool, octets: &[u8]) -
             call.peer == peer && call.packet == packet && is_same(call.bytes.as_slice(), octets)
         }
         None => false,
-    }
-}
-
-// Whether the calls of the link are what a step says, which names these octets; none where it says nothing of them.
-fn agrees_in_calls(link: &MemLink, step: Step, octets: &[u8]) -> Option<bool> {
-    let calls = link.calls();
-    match step {
-        Step::Calls(count) => Some(calls.len() == count),
-        Step::Put(place, peer, _) => Some(is_call(calls.get(place), peer, false, octets)),
-        Step::Sent(place, peer, _) => Some(is_call(calls.get(place), peer, true, octets)),
-        _ => None,
     }
 }
 
@@ -240,21 +221,16 @@ fn bound_label(edge: &Edge) -> u32 {
     }
 }
 
-// How many addresses the bridge of service 0 has learned.
-fn learned(edge: &Edge) -> usize {
-    match edge.bridge(ServiceId(0)) {
-        Some(bridge) => bridge.table().len(),
-        None => 0,
-    }
-}
-
 // Whether the edge is as a step says.
 fn agrees_in_edge(edge: &Edge, step: Step) -> bool {
     match step {
         Step::Session(peer, state) => edge.session(peer) == state,
         Step::Held(peer, count) => edge.held(peer) == count,
         Step::Gone(peer) => !edge.has_end(peer),
-        Step::Learned(count) => learned(edge) == count,
+        Step::Learned(count) => match edge.bridge(ServiceId(0)) {
+            Some(bridge) => bridge.table().len() == count,
+            None => count == 0,
+        },
         Step::Bound(label) => bound_label(edge) == label,
         Step::NextLabel(label) => edge.next_label() == label,
         Step::Stitched(stitched) => edge.is_stitched(WireId(0)) == stitched,
@@ -270,27 +246,25 @@ fn agrees(side: &Side, step: Step, octets: &[u8]) -> bool {
     if let Some(agrees) = agrees_in_effects(&side.effects, step, octets) {
         return agrees;
     }
-    match agrees_in_calls(&side.link, step, octets) {
-        Some(agrees) => agrees,
-        None => agrees_in_edge(&side.edge, step),
-    }
-}
-
-// Takes a step that names these octets, where it is an input; answers whether else what stands is what it says.
-fn does(rt: &impl Abort, alloc: Global, side: &mut Side, step: Step, octets: &[u8]) -> bool {
-    match input_of(step, octets) {
-        Some(input) => {
-            take_often(rt, alloc, side, input, times_of(step));
-            true
-        }
-        None => agrees(side, step, octets),
+    let calls = side.link.calls();
+    match step {
+        Step::Calls(count) => calls.len() == count,
+        Step::Put(place, peer, _) => is_call(calls.get(place), peer, false, octets),
+        Step::Sent(place, peer, _) => is_call(calls.get(place), peer, true, octets),
+        _ => agrees_in_edge(&side.edge, step),
     }
 }
 
 // Takes a step that is an input; answers whether else what stands is what it says.
 fn holds(rt: &impl Abort, alloc: Global, side: &mut Side, step: Step) -> bool {
     let octets = octets_of(rt, alloc, text_of(step));
-    does(rt, alloc, side, step, octets.as_slice())
+    match input_of(step, octets.as_slice()) {
+        Some(input) => {
+            take_often(rt, alloc, side, input, times_of(step));
+            true
+        }
+        None => agrees(side, step, octets.as_slice()),
+    }
 }
 
 /// Does steps.

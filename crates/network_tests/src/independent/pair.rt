@@ -138,19 +138,19 @@ fn number(rt: &impl Abort, digits: &str) -> usize {
 fn do_step(rt: &impl Abort, alloc: Global, a: &mut End, b: &mut End, step: &str) {
     let (first, more) = cut(step);
     match first.as_bytes() {
-        b"A" => end_does(rt, alloc, a, b, more),
-        b"B" => end_does(rt, alloc, b, a, more),
-        b"connect" => {
+        [b'A', ..] => end_does(rt, alloc, a, b, more),
+        [b'B', ..] => end_does(rt, alloc, b, a, more),
+        [b'c', ..] => {
             connected(rt, alloc, a, B).expect(rt, "connected");
             connected(rt, alloc, b, A).expect(rt, "connected");
         }
-        b"lose" => {
+        [b'l', ..] => {
             lost(rt, a, B);
             lost(rt, b, A);
             forget(rt, a);
             forget(rt, b);
         }
-        b"settle" => settle(rt, alloc, a, b, number(rt, more)),
+        [b's', ..] => settle(rt, alloc, a, b, number(rt, more)),
         _ => assert!(rt; first.is_empty(), "{step}"),
     }
 }
@@ -159,12 +159,12 @@ fn do_step(rt: &impl Abort, alloc: Global, a: &mut End, b: &mut End, step: &str)
 fn end_does(rt: &impl Abort, alloc: Global, end: &mut End, other: &mut End, words: &str) {
     let (first, more) = cut(words);
     match first.as_bytes() {
-        b"hears" => {
+        [b'h', ..] => {
             bring(rt, alloc, other, end, number(rt, more));
         }
-        b"asks" => set_twice(rt, alloc, end, Wish::Ask),
-        b"active" => set_twice(rt, alloc, end, Wish::Active),
-        b"standby" => set_twice(rt, alloc, end, Wish::Standby),
+        [b'a', b's', ..] => set_twice(rt, alloc, end, Wish::Ask),
+        [b'a', ..] => set_twice(rt, alloc, end, Wish::Active),
+        [b's', ..] => set_twice(rt, alloc, end, Wish::Standby),
         _ => assert!(rt; false, "{words}"),
     }
 }

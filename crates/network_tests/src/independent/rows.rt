@@ -55,17 +55,15 @@ fn comes_to(rt: &impl Abort, alloc: Global, steps: &str, words: &str) -> bool {
 }
 
 // A line is empty, words for a reader, or a row to which two ends come.
-fn holds(rt: &impl Abort, alloc: Global, line: &str) -> bool {
-    match line.split_once(" = ") {
-        Some((steps, words)) => comes_to(rt, alloc, steps, words),
-        None => line.is_empty() || line.ends_with('.'),
-    }
-}
-
 #[test]
 fn two_ends_tell_each_other_of_a_wire(rt: HostRuntime) {
     for line in ROWS.lines() {
-        assert!(&rt; holds(&rt, rt.alloc(), line.trim()), "{line}");
+        let line = line.trim();
+        let holds = match line.split_once(" = ") {
+            Some((steps, words)) => comes_to(&rt, rt.alloc(), steps, words),
+            None => line.is_empty() || line.ends_with('.'),
+        };
+        assert!(&rt; holds, "{line}");
     }
 }
 

@@ -16,20 +16,22 @@ const ANSWER: &str = "0200000000010200000000020800";
 // At which circuits frames enter: the broadcast leaves at the other two, and the answer at the first one.
 const FRAMES: [(u16, &str); 3] = [(0, BROADCAST), (1, ANSWER), (0, BROADCAST)];
 
-// Lends a network a frame that enters at a circuit.
-fn lends(rt: &impl Abort, alloc: Global, network: &mut Network, place: u16, text: &str) {
-    let event = Event::Frame {
-        circuit: CircuitId(place_in(rt, network.plan().circuits.len(), place)),
-        bytes: frame_octets(rt, alloc, text),
-    };
-    assert!(rt; network.apply(alloc, &event).is_ok());
+// How a network gets a frame: it is lent the event, or it is given the octets.
+#[derive(Clone, Copy)]
+enum By {
+    Lending,
+    Giving,
 }
 
-// Gives it such a frame.
-fn gives(rt: &impl Abort, alloc: Global, network: &mut Network, place: u16, text: &str) {
-    let circuit = CircuitId(place_in(rt, network.plan().circuits.len(), place));
-    let bytes = frame_octets(rt, alloc, text);
-    assert!(rt; network.enter(alloc, circuit, bytes).is_ok());
+// A network gets a frame that enters at a circuit.
+fn enters(rt: &impl Abort, alloc: Global, network: &mut Network, by: By, frame: (u16, &str)) {
+    let circuit = CircuitId(place_in(rt, network.plan().circuits.len(), frame.0));
+    let bytes = frame_octets(rt, alloc, frame.1);
+    let entered = match by {
+        By::Lending => network.apply(alloc, &Event::Frame { circuit, bytes }),
+        By::Giving => network.enter(alloc, circuit, bytes),
+    };
+    assert!(rt; entered.is_ok());
 }
 
 // Turns the first circuit off.
@@ -41,22 +43,13 @@ fn turns_off(rt: &impl Abort, alloc: Global, network: &mut Network) {
     assert!(rt; network.apply(alloc, &event).is_ok());
 }
 
-// Lends a network the frames, and one more that does not apply.
-fn lends_all(rt: &impl Abort, alloc: Global, network: &mut Network) {
-    for (place, text) in &FRAMES {
-        lends(rt, alloc, network, *place, text);
+// A network gets the frames, and one more that does not apply.
+fn all_enter(rt: &impl Abort, alloc: Global, network: &mut Network, by: By) {
+    for frame in &FRAMES {
+        enters(rt, alloc, network, by, *frame);
     }
     turns_off(rt, alloc, network);
-    lends(rt, alloc, network, 0, BROADCAST);
-}
-
-// Gives it the same.
-fn gives_all(rt: &impl Abort, alloc: Global, network: &mut Network) {
-    for (place, text) in &FRAMES {
-        gives(rt, alloc, network, *place, text);
-    }
-    turns_off(rt, alloc, network);
-    gives(rt, alloc, network, 0, BROADCAST);
+    enters(rt, alloc, network, by, FRAMES[0]);
 }
 
 // The circuit, the number and the octets of the frame that an entry tells.
@@ -110,8 +103,8 @@ fn are_same(rt: &impl Abort, alloc: Global, trace: &Trace, other: &Trace) {
 fn tells_the_same_of_a_frame_that_is_given(rt: HostRuntime) {
     let mut lent = network_of(&rt, rt.alloc(), BRIDGE);
     let mut given = network_of(&rt, rt.alloc(), BRIDGE);
-    lends_all(&rt, rt.alloc(), &mut lent);
-    gives_all(&rt, rt.alloc(), &mut given);
+    all_enter(&rt, rt.alloc(), &mut lent, By::Lending);
+    all_enter(&rt, rt.alloc(), &mut given, By::Giving);
     are_same(&rt, rt.alloc(), lent.trace(), given.trace());
     drop(lent.into_trace());
     drop(given.into_trace());

@@ -12,14 +12,6 @@ fn has_addresses(bridge: &Bridge, ticks: u64) -> bool {
     count == bridge.table().len() || (count == 0 && ticks >= u64::from(bridge.age()))
 }
 
-// Whether the label is owned.
-fn is_owned(labels: &LabelSpace, number: u32) -> bool {
-    match Label::new(number) {
-        Some(label) => labels.owner(label).is_some(),
-        None => false,
-    }
-}
-
 // The first label of an edge.
 fn first_label(edge: &Edge) -> u32 {
     match edge.plan().edges.get(usize::from(edge.me().0)) {
@@ -32,7 +24,9 @@ fn first_label(edge: &Edge) -> u32 {
 fn has_labels(labels: &LabelSpace, first: u32) -> bool {
     let mut owned: usize = 0;
     for number in first..labels.next_number() {
-        if is_owned(labels, number) {
+        if let Some(label) = Label::new(number)
+            && labels.owner(label).is_some()
+        {
             owned = owned.saturating_add(1);
         }
     }
@@ -51,18 +45,12 @@ fn has_all(edge: &Edge, services: u16) -> bool {
     has_labels(edge.labels(), first_label(edge))
 }
 
-// Whether the maps of the edge at a place have what its tables have.
-fn has_all_at(network: &Network, place: u16, services: u16) -> bool {
-    match network.edge(EdgeId(place)) {
-        Some(edge) => has_all(edge, services),
-        None => true,
-    }
-}
-
 /// Whether the maps of every edge and service have what their tables have. A plan has at most 64 edges and 64 services.
 pub fn have_all(network: &Network) -> bool {
     for place in 0..64 {
-        if !has_all_at(network, place, 64) {
+        if let Some(edge) = network.edge(EdgeId(place))
+            && !has_all(edge, 64)
+        {
             return false;
         }
     }

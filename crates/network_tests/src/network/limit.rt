@@ -11,21 +11,15 @@ use std::process::Abort;
 const EDGE: &str =
     "version = 1\n[[edge]]\nname = \"e\"\naddress = \"10.0.0.1\"\n[[service]]\nname = \"s\"\nmtu = 9198\n";
 
-// Puts a circuit into a scenario.
-fn put_circuit(rt: &impl Abort, alloc: Global, text: &mut String, number: u16) {
-    let row = format!(in alloc;
-        "[[circuit]]\nname = \"c{number}\"\nedge = \"e\"\nservice = \"s\"\n"
-    );
-    text.push_str(row.expect(rt, "memory").as_str())
-        .expect(rt, "memory");
-}
-
 // An edge with 512 circuits of one service.
 fn largest(rt: &impl Abort, alloc: Global) -> Network {
     let mut text = String::new(alloc);
     text.push_str(EDGE).expect(rt, "memory");
     for number in 0..512 {
-        put_circuit(rt, alloc, &mut text, number);
+        let row = format!(in alloc;
+            "[[circuit]]\nname = \"c{number}\"\nedge = \"e\"\nservice = \"s\"\n"
+        ).expect(rt, "memory");
+        text.push_str(row.as_str()).expect(rt, "memory");
     }
     network_of(rt, alloc, &[text.as_str()])
 }

@@ -213,16 +213,11 @@ fn maps(
     );
 }
 
-// Whether an event is the arrival of a packet.
-fn is_arrival(event: &Event) -> bool {
-    matches!(event, Event::Arrive { .. })
-}
-
 // The first packet arrives, where one is under way; answers whether it is.
 fn arrived(rt: &impl Abort, alloc: Global, network: &mut Network) -> bool {
     match network.next_arrival() {
         Some(event) => {
-            assert!(rt; is_arrival(&event));
+            assert!(rt; matches!(event, Event::Arrive { .. }));
             apply(rt, alloc, network, &event);
             true
         }
@@ -310,20 +305,13 @@ fn agrees_in_trace(rt: &impl Abort, alloc: Global, trace: &Trace, step: Step) ->
     }
 }
 
-// Whether the first service is what a step says; none where it says nothing of it.
-fn agrees_in_service(rt: &impl Abort, network: &Network, step: Step) -> Option<bool> {
+// Whether the state, with that of the first service, is what a step says.
+fn agrees_in_state(rt: &impl Abort, network: &Network, step: Step) -> bool {
     assert!(rt; !network.plan().services.is_empty());
     match step {
-        Step::Quiet(quiet) => Some(network.is_quiet(ServiceId(0)) == quiet),
-        Step::Full(full) => Some(network.is_full(ServiceId(0)) == full),
-        Step::Calm(calm) => Some(network.is_calm(ServiceId(0)) == calm),
-        _ => None,
-    }
-}
-
-// Whether the state is what a step says.
-fn agrees_in_state(network: &Network, step: Step) -> bool {
-    match step {
+        Step::Quiet(quiet) => network.is_quiet(ServiceId(0)) == quiet,
+        Step::Full(full) => network.is_full(ServiceId(0)) == full,
+        Step::Calm(calm) => network.is_calm(ServiceId(0)) == calm,
         Step::Bound(first, second) => {
             bound_label(network, 0) == first && bound_label(network, 1) == second
         }
@@ -336,12 +324,9 @@ fn agrees_in_state(network: &Network, step: Step) -> bool {
 
 // Whether what stands is what a step says.
 fn agrees(rt: &impl Abort, alloc: Global, network: &Network, step: Step) -> bool {
-    if let Some(agrees) = agrees_in_trace(rt, alloc, network.trace(), step) {
-        return agrees;
-    }
-    match agrees_in_service(rt, network, step) {
+    match agrees_in_trace(rt, alloc, network.trace(), step) {
         Some(agrees) => agrees,
-        None => agrees_in_state(network, step),
+        None => agrees_in_state(rt, network, step),
     }
 }
 
