@@ -1,7 +1,11 @@
 //! Scripts of discovery that are wrong, each with its first word that fits no line.
+ghost use Rattle.net_base.specs.plan.Accepted.{IsChecked};
 
 use crate::script_files::plans::three_edges;
 use discovery_script::{ScriptFault, read_script};
+use net_base::Plan;
+use std::alloc::Global;
+use std::process::Abort;
 
 // A hold time that is too large, or has a zero in front; words that are missing or one too many; names of no edge; numbers of no Hello; first
 // words of no line, and commands that no script says; and a word that is none behind one that fits no line.
@@ -38,12 +42,22 @@ const FAULTS: [(&str, u32, u32); 30] = [
     ("open a d\ntick", 2, 2),
 ];
 
+// The place of the first fault of a short script.
+fn fault_of(rt: &impl Abort, alloc: Global, plan: &Plan, text: &str) -> (u32, u32)
+    requires { IsChecked plan.now }
+{
+    assert!(rt; text.len() < 1000);
+    match read_script(alloc, plan, text.as_bytes()) {
+        Err(ScriptFault::Bad { line, word }) => (line, word),
+        _ => (0, 0),
+    }
+}
+
 #[test]
 fn names_the_first_word_that_fits_no_line(rt: HostRuntime) {
     let plan = three_edges(&rt, rt.alloc());
     for (text, line, word) in FAULTS {
-        assert!(rt; text.len() < 1000);
-        let fault = read_script(rt.alloc(), &plan, text.as_bytes()).err();
-        assert!(rt; fault == Some(ScriptFault::Bad { line, word }));
+        let (found, at) = fault_of(&rt, rt.alloc(), &plan, text);
+        assert!(rt; found == line && at == word);
     }
 }

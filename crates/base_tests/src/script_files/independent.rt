@@ -1,6 +1,10 @@
 //! Scripts of independent mode that are wrong, each with its first word that fits no line.
+ghost use Rattle.net_base.specs.plan.Accepted.{IsChecked};
 
 use crate::script_files::plans::long_wire;
+use net_base::Plan;
+use std::alloc::Global;
+use std::process::Abort;
 use switchover_script::{ScriptFault, read_script};
 
 // Names of no edge; words that are missing or one too many; numbers that are too small or too large; a wire of three edges, and names of no
@@ -35,12 +39,22 @@ const FAULTS: [(&str, u32, u32); 27] = [
     ("connect a b\nask a u\nsettle  9\n", 3, 2),
 ];
 
+// The place of the first fault of a short script.
+fn fault_of(rt: &impl Abort, alloc: Global, plan: &Plan, text: &str) -> (u32, u32)
+    requires { IsChecked plan.now }
+{
+    assert!(rt; text.len() < 1000);
+    match read_script(alloc, plan, text.as_bytes()) {
+        Err(ScriptFault::Bad { line, word }) => (line, word),
+        _ => (0, 0),
+    }
+}
+
 #[test]
 fn names_the_first_word_that_fits_no_line(rt: HostRuntime) {
     let plan = long_wire(&rt, rt.alloc());
     for (text, line, word) in FAULTS {
-        assert!(rt; text.len() < 1000);
-        let fault = read_script(rt.alloc(), &plan, text.as_bytes()).err();
-        assert!(rt; fault == Some(ScriptFault::Bad { line, word }));
+        let (found, at) = fault_of(&rt, rt.alloc(), &plan, text);
+        assert!(rt; found == line && at == word);
     }
 }
