@@ -16,4 +16,5 @@ pub mod ScriptFileLemmas
 pub mod SettleLemmas
 pub mod StreamLemmas
 pub mod SwitchoverLemmas
+pub mod TypedPlanLemmas
 pub mod WritingLemmas

@@ -4,11 +4,7 @@ use Rattle.std.proofs.lemmas.Bool.{eqb-true}
 use Rattle.std.proofs.lemmas.Bool.Decides.{nat_tests}
 use Rattle.std.proofs.lemmas.List.{get_or_default}
 use Rattle.std.specs.List.{All}
-use Rattle.net_base.specs.declared.plan.edge_plan.EdgePlan.{EdgePlan}
-use Rattle.net_base.specs.declared.plan.wire_plan.WirePlan.{WirePlan}
 use Rattle.net_base.specs.declared.trace.entry.Entry.{Entry}
-use Rattle.session_core.specs.Laws.{IsAddress}
-use Rattle.flight_laws.specs.Ends.{AreFieldOffers}
 use Rattle.report_laws.specs.Types.{IsTypedEntry}
 
 -- so many of the items are seen to be so
@@ -32,35 +28,6 @@ one_seen {X} P items count item seen here = record { each = λ k other within be
 
 all_seen : {X : Type 0} (P : X → Type 0) (items : List X) (count : ℕ) → length items ≤ count → AreSeen P items count → All P items
 all_seen P items count whole seen = λ k other within. seen.each k other within (omega (arith, whole, within))
-
--- ---- addresses
-
-abbrev pub HasAddress : EdgePlan → Type 0
-HasAddress row = IsAddress row.address
-
-pub no_address : (edges : List EdgePlan) → AreSeen HasAddress edges 0
-no_address edges = none_seen HasAddress edges
-
-pub one_address : (edges : List EdgePlan) (count : ℕ) (row : EdgePlan) → AreSeen HasAddress edges count → IsAddress (slice_index_or edges count row).address → AreSeen HasAddress edges (count + 1)
-one_address edges count row seen here = one_seen HasAddress edges count row seen here
-
-pub all_addresses : (edges : List EdgePlan) (count : ℕ) → length edges ≤ count → AreSeen HasAddress edges count → All (λ row. IsAddress row.address) edges
-all_addresses edges count whole seen = all_seen HasAddress edges count whole seen
-
-pub ruleset address_steps = (no_address, one_address, all_addresses)
-
--- ---- offers
-
-pub no_offers : (wires : List WirePlan) → AreSeen AreFieldOffers wires 0
-no_offers wires = none_seen AreFieldOffers wires
-
-pub one_offers : (wires : List WirePlan) (count : ℕ) (row : WirePlan) → AreSeen AreFieldOffers wires count → AreFieldOffers (slice_index_or wires count row) → AreSeen AreFieldOffers wires (count + 1)
-one_offers wires count row seen here = one_seen AreFieldOffers wires count row seen here
-
-pub all_offers : (wires : List WirePlan) (count : ℕ) → length wires ≤ count → AreSeen AreFieldOffers wires count → All AreFieldOffers wires
-all_offers wires count whole seen = all_seen AreFieldOffers wires count whole seen
-
-pub ruleset offer_steps = (no_offers, one_offers, all_offers)
 
 -- ---- entries
 

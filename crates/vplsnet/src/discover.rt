@@ -1,6 +1,7 @@
 //! The command `discover`: the report of a script over the network of a scenario.
 ghost use Rattle.std.specs.Prelude.{◌≡◌, ◌<◌, ◌^◌, ◌-◌, [], All, length};
 ghost use Rattle.discovery_script.specs.{Lines.{discovery_lines_in}, Planned.{IsDiscoveryLineOf}};
+ghost use Rattle.flight_laws.specs.Ends.{HasTypes};
 ghost use Rattle.net_base.specs.plan.Accepted.{IsChecked};
 ghost use Rattle.text_lines.specs.Written.{PutsOn, lines_written};
 ghost use Rattle.vplsnet.specs.{Answers.{SaysOutcome}, Around.{Has, around, gained}, Asked.{Discover}, Discover.{discovery_text}};
@@ -12,7 +13,6 @@ use crate::plan_file::plan_and_file;
 use crate::replay::ending_of;
 use crate::scenario_run::outcome_of;
 use crate::script_file::{SCRIPT_LIMIT, refused};
-use crate::types::see_types;
 use discovery_net::{DiscoveryRun, run_script};
 use discovery_script::{ScriptLine, read_script};
 use discovery_text::{NotedTrace, put_discovery};
@@ -44,6 +44,7 @@ pub fn discover_files<F: Shelf, K: Sink>(
 #[tactic(auto, using(crate::proofs::DiscoverLemmas::script_steps))]
 fn discover<K: Sink>(alloc: Global, plan: &Plan, script: &[u8], sink: &mut K) -> Finish
     requires checked { IsChecked plan.now }
+    requires typed { HasTypes plan.now }
     requires few { length script.now < 2 ^ 32 - 2 }
     ensures status { result.status ≡ exit_status result.outcome }
     ensures ends { EndsScript (discovery_lines_in plan.now script.now) (λ lines. EndsDiscovery plan.now lines (lines_written (K.taken sink.old) (K.faults sink.old) []) (lines_written (K.taken sink.new) (K.faults sink.new) []) result.network result.outcome) (lines_written (K.taken sink.old) (K.faults sink.old) []) (lines_written (K.taken sink.new) (K.faults sink.new) []) result.network result.outcome }
@@ -63,11 +64,11 @@ fn finish_lines<K: Sink>(
     sink: &mut K,
 ) -> Finish
     requires checked { IsChecked plan.now }
+    requires typed { HasTypes plan.now }
     requires planned { All (IsDiscoveryLineOf plan.now) lines }
     ensures status { result.status ≡ exit_status result.outcome }
     ensures ends { EndsDiscovery plan.now lines (lines_written (K.taken sink.old) (K.faults sink.old) []) (lines_written (K.taken sink.new) (K.faults sink.new) []) result.network result.outcome }
 {
-    see_types(plan);
     let mut page = match Page::new(alloc) {
         Ok(page) => page,
         Err(NoMemory) => return Finish::without_run(Outcome::NoMemory),

@@ -1,6 +1,7 @@
 //! A scenario's file, and a second file that is read behind it.
 ghost use Rattle.std.specs.Prelude.{◌<◌, ◌^◌, IfErr, IfOk};
 ghost use Rattle.net_base.specs.plan.Accepted.{IsChecked};
+ghost use Rattle.flight_laws.specs.Ends.{HasTypes};
 ghost use Rattle.vplsnet.specs.{Around.{gained}, PlanFile.{HasBoth, IsReadOfTwo, LacksOne}, Reads.{GainsReads}};
 
 use crate::named_file::octets_of;
@@ -31,6 +32,7 @@ pub fn plan_and_file<F: Shelf>(
     requires { limit < 2 ^ 62 }
     ensures has { IfOk result (λ both. HasBoth (gained (F.reads shelf.old) (F.reads shelf.new)) file.now (record { name = second.now; limit = limit }) both.scenario both.octets) }
     ensures checked { IfOk result (λ both. IsChecked both.scenario.plan) }
+    ensures typed { IfOk result (λ both. HasTypes both.scenario.plan) }
     ensures lacks { IfErr result (LacksOne (gained (F.reads shelf.old) (F.reads shelf.new)) (F.faults shelf.old) (F.faults shelf.new) file.now (record { name = second.now; limit = limit })) }
     ensures reads { GainsReads (IsReadOfTwo (gained (F.reads shelf.old) (F.reads shelf.new)) file.now (record { name = second.now; limit = limit })) (F.reads shelf.old) (F.reads shelf.new) }
 {

@@ -2,6 +2,7 @@
 ghost use Rattle.std.specs.Prelude.{◌≡◌, [], All, IfErr, IfOk};
 ghost use Rattle.net_base.specs.{plan.Accepted.{IsChecked}, plan.Planned.{IsFrame}};
 ghost use Rattle.command_text.specs.Planned.{IsPlanned};
+ghost use Rattle.flight_laws.specs.Ends.{HasTypes};
 ghost use Rattle.text_lines.specs.Written.{lines_written};
 ghost use Rattle.vplsnet.specs.{Answers.{IsRefused, SaysOutcome}, Around.{Has, around, gained}, Asked.{run_asked_by}};
 ghost use Rattle.vplsnet.specs.{Finish.{exit_status}, Inputs.{ComesTo, Run, Works}, Reads.{GainsReads, IsReadOfNext}, Writing.{EndsRun}};
@@ -39,10 +40,11 @@ pub fn run_files<F: Shelf, K: Sink>(
 }
 
 // The scenario of a request, with the captures that it plays, or the outcome of what is refused first.
-#[tactic(auto, using(crate::proofs::ScenarioFileLemmas::work_steps, crate::proofs::ReadLemmas::reads_none))]
+#[tactic(auto, using(crate::proofs::ScenarioFileLemmas::work_steps, crate::proofs::ReadLemmas::reads_none, crate::proofs::TypedPlanLemmas::rehearsed_types))]
 fn work_of<F: Shelf>(alloc: Global, request: RunRequest<'_>, shelf: &mut F) -> Result<Work, Outcome>
     ensures come { IfOk result (λ work. ComesTo (Has (gained (F.reads shelf.old) (F.reads shelf.new))) (run_asked_by request.entry) (Works (Run work.scenario work.captures))) }
     ensures checked { IfOk result (λ work. IsChecked work.scenario.plan) }
+    ensures typed { IfOk result (λ work. HasTypes work.scenario.plan) }
     ensures planned { IfOk result (λ work. All (IsPlanned work.scenario.plan) work.scenario.commands) }
     ensures frames { IfOk result (λ work. All (All IsFrame) work.captures) }
     ensures refused { IfErr result (IsRefused (gained (F.reads shelf.old) (F.reads shelf.new)) (F.faults shelf.old) (F.faults shelf.new) (run_asked_by request.entry)) }
@@ -66,6 +68,7 @@ fn work_of<F: Shelf>(alloc: Global, request: RunRequest<'_>, shelf: &mut F) -> R
 #[tactic(auto, using(crate::proofs::RunLemmas::is_scenario_run, crate::proofs::RunLemmas::checked_as, crate::proofs::WritingLemmas::flush_steps, crate::proofs::WritingLemmas::run_steps, crate::proofs::WritingLemmas::text_steps))]
 fn finish_work<K: Sink>(alloc: Global, request: RunRequest<'_>, work: Work, sink: &mut K) -> Finish
     requires checked { IsChecked work.scenario.plan }
+    requires typed { HasTypes work.scenario.plan }
     requires planned { All (IsPlanned work.scenario.plan) work.scenario.commands }
     requires frames { All (All IsFrame) work.captures }
     ensures status { result.status ≡ exit_status result.outcome }

@@ -2,6 +2,7 @@
 ghost use Rattle.std.specs.Prelude.{◌≡◌, All, IfErr, IfOk, Ok};
 ghost use Rattle.net_base.specs.{outside.Outside.{NeverFall}, plan.Accepted.{IsChecked}, plan.Planned.{IsFrame}};
 ghost use Rattle.command_text.specs.Planned.{IsPlanned};
+ghost use Rattle.flight_laws.specs.Ends.{HasTypes};
 ghost use Rattle.vplsnet.specs.{Answers.{IsRefused}, Around.{Has, gained}, Asked.{run_asked_by}, Inputs.{ComesTo, Run, Works, scenario_limit}};
 ghost use Rattle.vplsnet.specs.Reads.{GainsReads, IsCaptureRead, IsReadOf, IsReadOfNext};
 ghost use Rattle.vplsnet.specs.ScenarioFile.{HasAll, HasNoScenario, IsOfFile, LacksSome, ReadsScenario, outcome_of_fault};
@@ -20,7 +21,7 @@ use std::alloc::Global;
 const SCENARIO_LIMIT: usize = 8_388_608;
 
 /// The scenario of a file; or the outcome of what is refused first: the file is read, and its octets are a scenario.
-#[tactic(auto, using(crate::proofs::ScenarioFileLemmas::one_file_steps, crate::proofs::ScenarioFileLemmas::no_scenario_by))]
+#[tactic(auto, using(crate::proofs::ScenarioFileLemmas::one_file_steps, crate::proofs::ScenarioFileLemmas::no_scenario_by, crate::proofs::TypedPlanLemmas::read_types))]
 pub fn file_scenario<F: Shelf>(
     alloc: Global,
     shelf: &mut F,
@@ -28,6 +29,7 @@ pub fn file_scenario<F: Shelf>(
 ) -> Result<Scenario, Outcome>
     ensures has { IfOk result (IsOfFile (gained (F.reads shelf.old) (F.reads shelf.new)) file.now) }
     ensures checked { IfOk result (λ scenario. IsChecked scenario.plan) }
+    ensures typed { IfOk result (λ scenario. HasTypes scenario.plan) }
     ensures planned { IfOk result (λ scenario. All (IsPlanned scenario.plan) scenario.commands) }
     ensures none { IfErr result (HasNoScenario (gained (F.reads shelf.old) (F.reads shelf.new)) (F.faults shelf.old) (F.faults shelf.new) file.now) }
     ensures reads { GainsReads (IsReadOf (record { name = file.now; limit = scenario_limit })) (F.reads shelf.old) (F.reads shelf.new) }
@@ -56,6 +58,7 @@ pub fn scenario_of<F: Shelf>(
     requires { ReadsScenario (run_asked_by request) file.now }
     ensures come { IfOk result (λ work. ComesTo (Has (gained (F.reads shelf.old) (F.reads shelf.new))) (run_asked_by request.entry) (Works (Run work.scenario work.captures))) }
     ensures checked { IfOk result (λ work. IsChecked work.scenario.plan) }
+    ensures typed { IfOk result (λ work. HasTypes work.scenario.plan) }
     ensures planned { IfOk result (λ work. All (IsPlanned work.scenario.plan) work.scenario.commands) }
     ensures frames { IfOk result (λ work. All (All IsFrame) work.captures) }
     ensures refused { IfErr result (IsRefused (gained (F.reads shelf.old) (F.reads shelf.new)) (F.faults shelf.old) (F.faults shelf.new) (run_asked_by request.entry)) }

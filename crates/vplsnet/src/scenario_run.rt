@@ -2,10 +2,10 @@
 ghost use Rattle.std.specs.Prelude.{◌≡◌, All, IfOk};
 ghost use Rattle.net_base.specs.{plan.Accepted.{IsChecked}, plan.Planned.{IsFrame}};
 ghost use Rattle.command_text.specs.Planned.{IsPlanned};
+ghost use Rattle.flight_laws.specs.Ends.{HasTypes};
 ghost use Rattle.vplsnet.specs.{RunOver.{outcome_by}, ScenarioRun.{HasRun}};
 
 use crate::outcome::Outcome;
-use crate::types::see_types;
 use crate::work::Work;
 use command_run::{LeftCaptures, run_command};
 use net_base::NoMemory;
@@ -26,11 +26,11 @@ pub struct ScenarioRun {
 #[tactic(auto, using(command_run::proofs::MadeLemmas::planned_first))]
 pub fn run_scenario(alloc: Global, work: Work) -> Result<ScenarioRun, NoMemory>
     requires checked { IsChecked work.scenario.plan }
+    requires typed { HasTypes work.scenario.plan }
     requires planned { All (IsPlanned work.scenario.plan) work.scenario.commands }
     requires frames { All (All IsFrame) work.captures }
     ensures run { IfOk result (λ run. HasRun work.scenario work.captures run.network run.stop) }
 {
-    see_types(&work.scenario.plan);
     let entries = work.scenario.commands.len().saturating_mul(ENTRIES);
     let mut network = match Network::open_with_capacity(alloc, &work.scenario.plan, entries) {
         Ok(network) => network,

@@ -1,5 +1,6 @@
 //! The command `switchover`: what a script makes of the edges of a scenario in independent mode.
 ghost use Rattle.std.specs.Prelude.{◌≡◌, ◌<◌, ◌^◌, ◌-◌, [], All, None, length};
+ghost use Rattle.flight_laws.specs.Ends.{HasTypes};
 ghost use Rattle.net_base.specs.plan.Accepted.{IsChecked};
 ghost use Rattle.switchover_model.specs.Planned.{IsLineOf};
 ghost use Rattle.switchover_script.specs.Lines.{switch_lines_in};
@@ -11,7 +12,6 @@ use crate::finish::Finish;
 use crate::outcome::Outcome;
 use crate::plan_file::plan_and_file;
 use crate::script_file::{SCRIPT_LIMIT, refused};
-use crate::types::see_types;
 use net_base::{NoMemory, Plan, Shelf, Sink};
 use std::alloc::Global;
 use switchover_net::play;
@@ -46,6 +46,7 @@ pub fn switchover_files<F: Shelf, K: Sink>(
 #[tactic(auto, using(crate::proofs::SwitchoverLemmas::script_steps))]
 fn exchange<K: Sink>(alloc: Global, plan: &Plan, script: &[u8], sink: &mut K) -> Outcome
     requires checked { IsChecked plan.now }
+    requires typed { HasTypes plan.now }
     requires few { length script.now < 2 ^ 32 - 2 }
     ensures { EndsScript (switch_lines_in plan.now script.now) (λ lines. EndsExchange plan.now lines (lines_written (K.taken sink.old) (K.faults sink.old) []) (lines_written (K.taken sink.new) (K.faults sink.new) []) None result) (lines_written (K.taken sink.old) (K.faults sink.old) []) (lines_written (K.taken sink.new) (K.faults sink.new) []) None result }
 {
@@ -64,10 +65,10 @@ fn write_exchange<K: Sink>(
     sink: &mut K,
 ) -> Outcome
     requires checked { IsChecked plan.now }
+    requires typed { HasTypes plan.now }
     requires planned { All (IsLineOf plan.now) lines.now }
     ensures { EndsExchange plan.now lines.now (lines_written (K.taken sink.old) (K.faults sink.old) []) (lines_written (K.taken sink.new) (K.faults sink.new) []) None result }
 {
-    see_types(plan);
     let mut page = match Page::new(alloc) {
         Ok(page) => page,
         Err(NoMemory) => return Outcome::NoMemory,

@@ -36,6 +36,6 @@ returns-in-Err-run_command c =
         plan_is = c.in-Err-run_command.ensures.plan ∙ c.loop-command.invariant.2.plan;
         going = limit_going c.in-Err-run_command.stop c.run_command.new.network (search rules) c.in-Err-run_command.ensures.going;
         ends = stopped_end c.in-Err-run_command.stop c.run_command.new.network (whole_run c.args.work.scenario c.args.work.captures) (search rules) halts;
-        types = c.see_types.ensures;
+        types = c.requires.typed;
       };
     }

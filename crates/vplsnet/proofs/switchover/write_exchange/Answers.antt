@@ -10,19 +10,19 @@ pub returns-in-Err-put_switchover : goal.returns-in-Err-put_switchover
 returns-in-Err-put_switchover g c =
     let same : switchover_text c.args.plan.now c.args.lines.now c.as_slice.result.now ≡ switchover_report c.args.plan.now c.args.lines.now =
     ap (switchover_text c.args.plan.now c.args.lines.now) (c.as_slice.ensures ∙ c.in-Ok-play.ensures.entries) in
-    exchange_front c.args.plan.now c.args.lines.now (switchover_text c.args.plan.now c.args.lines.now c.as_slice.result.now) _ _ _ c.requires.checked c.see_types.ensures same refl
+    exchange_front c.args.plan.now c.args.lines.now (switchover_text c.args.plan.now c.args.lines.now c.as_slice.result.now) _ _ _ c.requires.checked c.requires.typed same refl
     (cut_text _ _ _ c.in-Ok.ensures c.in-Err-put_switchover.ensures) (rose_put _ _ _ c.in-Err-put_switchover.ensures)
 
 pub returns-in-Ok-flush : goal.returns-in-Ok-flush
 returns-in-Ok-flush g c =
     let same : switchover_text c.args.plan.now c.args.lines.now c.as_slice.result.now ≡ switchover_report c.args.plan.now c.args.lines.now =
     ap (switchover_text c.args.plan.now c.args.lines.now) (c.as_slice.ensures ∙ c.in-Ok-play.ensures.entries) in
-    exchange_whole c.args.plan.now c.args.lines.now (switchover_text c.args.plan.now c.args.lines.now c.as_slice.result.now) _ _ _ c.requires.checked c.see_types.ensures same refl
+    exchange_whole c.args.plan.now c.args.lines.now (switchover_text c.args.plan.now c.args.lines.now c.as_slice.result.now) _ _ _ c.requires.checked c.requires.typed same refl
     (whole_text _ _ _ _ c.in-Ok.ensures c.in-Ok-put_switchover.ensures c.in-Ok-flush.ensures.whole)
 
 pub returns : goal.returns
 returns g c =
     let same : switchover_text c.args.plan.now c.args.lines.now c.as_slice.result.now ≡ switchover_report c.args.plan.now c.args.lines.now =
     ap (switchover_text c.args.plan.now c.args.lines.now) (c.as_slice.ensures ∙ c.in-Ok-play.ensures.entries) in
-    exchange_front c.args.plan.now c.args.lines.now (switchover_text c.args.plan.now c.args.lines.now c.as_slice.result.now) _ _ _ c.requires.checked c.see_types.ensures same refl
+    exchange_front c.args.plan.now c.args.lines.now (switchover_text c.args.plan.now c.args.lines.now c.as_slice.result.now) _ _ _ c.requires.checked c.requires.typed same refl
     (front_flushed _ _ _ _ c.in-Ok.ensures c.in-Ok-put_switchover.ensures c.in-Err-flush.ensures.cut) (rose_flushed _ _ _ _ c.in-Ok-put_switchover.ensures c.in-Err-flush.ensures.cut)
