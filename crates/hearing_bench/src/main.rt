@@ -43,7 +43,8 @@ fn main(rt: HostRuntime) -> ExitCode {
 // Prints how many KeepAlives were heard.
 fn told(rt: &HostRuntime) -> Option<()> {
     let (count, pieces) = numbers(rt)?;
-    let heard = all_heard(rt.alloc(), count, pieces)?;
+    let scenario = read_scenario(rt.alloc(), PAIR.as_bytes()).ok()?;
+    let heard = heard_in(rt.alloc(), &scenario.plan, count, pieces)?;
     println!(rt; "{heard}").ok()
 }
 
@@ -55,33 +56,16 @@ fn numbers(rt: &HostRuntime) -> Option<(u32, u32)> {
     Some((count, pieces))
 }
 
-// The second edge of the scenario hears the pieces; how many KeepAlives they had.
-fn all_heard(alloc: Global, count: u32, pieces: u32) -> Option<u64> {
-    match read_scenario(alloc, PAIR.as_bytes()) {
-        Ok(scenario) => heard_in(alloc, &scenario.plan, count, pieces),
-        Err(_) => None,
-    }
-}
-
-// The second edge of the plan hears them.
+// The second edge of the plan hears the pieces over a link in memory; how many KeepAlives they had.
 fn heard_in(alloc: Global, plan: &Plan, count: u32, pieces: u32) -> Option<u64>
     requires { IsChecked plan.now }
 {
     if plan.edges.len() < 2 {
         return None;
     }
-    match Edge::open(alloc, plan, EdgeId(1)) {
-        Ok(mut edge) => heard_by(alloc, &mut edge, count, pieces),
-        Err(_) => None,
-    }
-}
-
-// The edge hears them over a link in memory.
-fn heard_by(alloc: Global, edge: &mut Edge, count: u32, pieces: u32) -> Option<u64> {
-    match MemLink::new(alloc, List::new(alloc)) {
-        Ok(mut link) => heard_over(alloc, edge, &mut link, count, pieces),
-        Err(_) => None,
-    }
+    let mut edge = Edge::open(alloc, plan, EdgeId(1)).ok()?;
+    let mut link = MemLink::new(alloc, List::new(alloc)).ok()?;
+    heard_over(alloc, &mut edge, &mut link, count, pieces)
 }
 
 // The session comes up, and the edge hears the pieces; how many KeepAlives they had, where the session is up then, and nothing is held.
@@ -132,29 +116,21 @@ fn hears_pieces(
     pieces: u32,
 ) -> bool {
     let mut piece = Vec::new(alloc);
-    fills(&mut piece, count) && hears_each(alloc, edge, link, piece.as_slice(), pieces)
-}
-
-// Makes a piece of so many KeepAlives.
-fn fills(piece: &mut Vec<u8>, count: u32) -> bool {
-    for _number in 0..count {
-        if piece.extend_from_slice(&KEEP_ALIVE).is_err() {
+    if !fills(&mut piece, count) {
+        return false;
+    }
+    for _number in 0..pieces {
+        if !hears(alloc, edge, link, piece.as_slice()) {
             return false;
         }
     }
     true
 }
 
-// The edge hears a piece so often.
-fn hears_each(
-    alloc: Global,
-    edge: &mut Edge,
-    link: &mut MemLink,
-    piece: &[u8],
-    pieces: u32,
-) -> bool {
-    for _number in 0..pieces {
-        if !hears(alloc, edge, link, piece) {
+// Makes a piece of so many KeepAlives.
+fn fills(piece: &mut Vec<u8>, count: u32) -> bool {
+    for _number in 0..count {
+        if piece.extend_from_slice(&KEEP_ALIVE).is_err() {
             return false;
         }
     }
