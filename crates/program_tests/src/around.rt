@@ -1,6 +1,6 @@
 //! What lies around the calls of the tests: a shelf, a sink and words, and how a call has to end.
 
-use net_base::{List, MemShelf, MemSink, NoMemory, Sink};
+use net_base::{List, MemShelf, MemSink, Sink};
 use std::alloc::Global;
 use std::process::Abort;
 use vplsnet::finish_line::finish_line;
@@ -143,17 +143,12 @@ pub fn sink_of(rt: &impl Abort, alloc: Global, room: usize, fails: u64) -> MemSi
     MemSink::new(alloc, room, failing(rt, alloc, fails)).expect(rt, "memory")
 }
 
-// Puts a word behind those that are given.
-fn put_word(rt: &impl Abort, alloc: Global, given: &mut Vec<String>, word: &str) {
-    let word = String::from_str(alloc, word).expect(rt, "memory");
-    given.push(word).expect(rt, "memory");
-}
-
 // Words that are parted by blanks.
 fn words_of(rt: &impl Abort, alloc: Global, words: &str) -> Vec<String> {
     let mut given = Vec::new(alloc);
     for word in words.split_whitespace() {
-        put_word(rt, alloc, &mut given, word);
+        let word = String::from_str(alloc, word).expect(rt, "memory");
+        given.push(word).expect(rt, "memory");
     }
     given
 }
@@ -196,19 +191,14 @@ fn put(rt: &impl Abort, octets: &mut Vec<u8>, case: &Case, text: &str) {
     }
 }
 
-// Puts the piece of a file, as often as it stands there.
-fn put_pieces(rt: &impl Abort, octets: &mut Vec<u8>, case: &Case) {
-    for _time in 0..case.times {
-        put(rt, octets, case, case.piece);
-    }
-}
-
 // The octets of the file.
 fn file_of(rt: &impl Abort, alloc: Global, case: &Case, front: &str) -> Vec<u8> {
     let mut octets = Vec::new(alloc);
     put(rt, &mut octets, case, case.opening);
     put(rt, &mut octets, case, front);
-    put_pieces(rt, &mut octets, case);
+    for _time in 0..case.times {
+        put(rt, &mut octets, case, case.piece);
+    }
     put(rt, &mut octets, case, case.back);
     put(rt, &mut octets, case, case.closing);
     put(rt, &mut octets, case, case.tables);
@@ -309,27 +299,13 @@ fn is_taken(octets: &[u8], taken: Taken) -> bool {
     }
 }
 
-// The line on standard error; empty where there is none.
-fn line_of(alloc: Global, outcome: &Outcome) -> Result<Vec<u8>, NoMemory> {
-    if matches!(outcome, Outcome::Done) {
-        Ok(Vec::new(alloc))
-    } else {
-        finish_line(alloc, outcome)
-    }
-}
-
-// Whether this line tells an outcome.
+// Whether this line on standard error tells an outcome; none tells that the call is done.
 fn is_told(rt: &impl Abort, alloc: Global, outcome: &Outcome, told: &str) -> bool {
-    let line = line_of(alloc, outcome).expect(rt, "memory");
-    line.as_slice() == told.as_bytes()
-}
-
-// Whether there are so many entries, where that is told.
-fn is_count(entries: usize, told: Option<usize>) -> bool {
-    match told {
-        Some(count) => entries == count,
-        None => true,
+    if matches!(outcome, Outcome::Done) {
+        return told.is_empty();
     }
+    let line = finish_line(alloc, outcome).expect(rt, "memory");
+    line.as_slice() == told.as_bytes()
 }
 
 // What of the status, the outcome and the sink is not as the row has it; empty where all is. The sink counts a fault exactly where the
@@ -380,7 +356,8 @@ fn difference_with(
     sink: &mut MemSink,
 ) -> &'static str {
     let finish = finish_of(rt, alloc, case, row, sink);
-    let difference = if is_count(finish.trace().len(), case.entries) {
+    let entries = finish.trace().len();
+    let difference = if case.entries.unwrap_or(entries) == entries {
         difference(rt, alloc, row, finish.status, &finish.outcome, sink)
     } else {
         "entries"
@@ -426,15 +403,7 @@ pub fn all_play(rt: &impl Abort, alloc: Global, cases: &[Case]) {
     }
 }
 
-// The status and the line on standard error of these words; of none, those of a call that is done.
-fn ending_in(rt: &impl Abort, words: &'static str) -> (u8, &'static str) {
-    match words.split_once(' ') {
-        Some((status, told)) => (status.parse::<u8>().ok().expect(rt, "a status"), told),
-        None => (0, ""),
-    }
-}
-
-// The row whose call and ending are these words.
+// The row whose call and ending are these words; without a status it is of a call that is done.
 fn row_in(rt: &impl Abort, case: &Case, call: &'static str, ending: &'static str) -> Row {
     let (words, front) = match call.strip_prefix("$ ") {
         Some(words) => (words, case.front),
@@ -444,7 +413,10 @@ fn row_in(rt: &impl Abort, case: &Case, call: &'static str, ending: &'static str
         Some(parts) => parts,
         None => (ending, ""),
     };
-    let (status, told) = ending_in(rt, end);
+    let (status, told) = match end.split_once(' ') {
+        Some((status, told)) => (status.parse::<u8>().ok().expect(rt, "a status"), told),
+        None => (0, ""),
+    };
     let taken = match lines.trim() {
         "" => Taken::Whole(""),
         lines => Taken::Lines(lines),

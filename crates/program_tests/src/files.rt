@@ -1,7 +1,7 @@
 //! Whole files and whole texts over a shelf and a sink in memory.
 
 use crate::around::{shelf_of, sink_of};
-use net_base::{Failed, MemShelf, MemSink, Shelf, Sink};
+use net_base::{Failed, MemShelf, Shelf, Sink};
 use std::alloc::Global;
 use std::process::Abort;
 use vplsnet::{ReadStop, read_file, write_text};
@@ -74,14 +74,6 @@ static READS: [Read; 8] = [
     },
 ];
 
-// How many octets are read.
-fn length_of(alloc: Global, shelf: &mut MemShelf, read: &Read) -> Result<usize, ReadStop> {
-    match read_file(alloc, shelf, read.name, read.limit as usize) {
-        Ok(octets) => Ok(octets.len()),
-        Err(stop) => Err(stop),
-    }
-}
-
 // The shelf that holds the file.
 fn shelf_for(rt: &impl Abort, alloc: Global, read: &Read) -> MemShelf {
     let octets = Vec::from_elem(alloc, 7u8, read.count).expect(rt, "memory");
@@ -97,7 +89,10 @@ fn counts(shelf: &MemShelf, read: &Read) -> bool {
 // The file is read so.
 fn reads(rt: &impl Abort, alloc: Global, read: &Read) {
     let mut shelf = shelf_for(rt, alloc, read);
-    let length = length_of(alloc, &mut shelf, read);
+    let length = match read_file(alloc, &mut shelf, read.name, read.limit as usize) {
+        Ok(octets) => Ok(octets.len()),
+        Err(stop) => Err(stop),
+    };
     assert!(rt; length == read.want && counts(&shelf, read));
 }
 
@@ -114,17 +109,12 @@ static WRITES: [(usize, Result<(), Failed>, &str); 2] = [
     (3, Err(Failed), "abc"),
 ];
 
-// Whether the sink answers so, takes so much, and counts a fault where it fails.
-fn takes(sink: &mut MemSink, want: Result<(), Failed>, taken: &str) -> bool {
-    write_text(sink, b"abcdef") == want
-        && sink.taken() == taken.as_bytes()
-        && sink.faults() == u64::from(want.is_err())
-}
-
-// A sink with this room does.
+// A sink with this room answers so, takes so much, and counts a fault where it fails.
 fn writes(rt: &impl Abort, alloc: Global, room: usize, want: Result<(), Failed>, taken: &str) {
     let mut sink = sink_of(rt, alloc, room, 0);
-    assert!(rt; takes(&mut sink, want, taken), "{taken}");
+    let answer = write_text(&mut sink, b"abcdef");
+    assert!(rt; answer == want && sink.taken() == taken.as_bytes());
+    assert!(rt; sink.faults() == u64::from(want.is_err()));
 }
 
 #[test]

@@ -95,16 +95,12 @@ fn counts(rt: &HostRuntime, test: &impl Abort, shelf: &mut impl Shelf) {
 }
 
 // A shelf reads at any place and what it opened, and counts what it cannot read.
-fn reads_files(rt: &HostRuntime, test: &impl Abort, shelf: &mut impl Shelf) {
-    reads_places(rt, test, shelf);
-    reads_renamed(rt, test, shelf);
-    counts(rt, test, shelf);
-}
-
 #[test]
 fn reads_the_files_of_the_system(rt: HostRuntime) {
     let mut shelf = FileShelf::new(rt.alloc(), &rt);
-    reads_files(&rt, &rt, &mut shelf);
+    reads_places(&rt, &rt, &mut shelf);
+    reads_renamed(&rt, &rt, &mut shelf);
+    counts(&rt, &rt, &mut shelf);
     drop(shelf);
 }
 

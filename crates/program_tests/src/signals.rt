@@ -25,18 +25,13 @@ fn unsupported<T>() -> io::Result<T> {
     Err(io::Error::from(ErrorKind::Unsupported))
 }
 
-// The octets from a place on.
-fn octets_from(at: usize) -> &'static [u8] {
-    OCTETS.as_slice().split_at(at.min(5)).1
-}
-
 impl Read for Interrupted {
     fn read(&mut self, buf: &mut [u8]) -> io::Result<usize> {
         self.interrupts = !self.interrupts;
         if self.interrupts {
             return Err(io::Error::from(ErrorKind::Interrupted));
         }
-        let rest = octets_from(self.at);
+        let (_, rest) = OCTETS.as_slice().split_at(self.at.min(5));
         let count = rest.len().min(buf.len());
         buf[..count].copy_from_slice(&rest[..count]);
         self.at = self.at.saturating_add(count);

@@ -49,18 +49,13 @@ static STEPS: [Step; 5] = [
     ("i", Want::Write(Err(Failed)), 2),
 ];
 
-// Whether the sink answers so.
-fn answers(sink: &mut StdSink<Narrow<'_>>, octets: &[u8], want: Want) -> bool {
-    match want {
-        Want::Write(want) => sink.write(octets) == want,
-        Want::Text(want) => write_text(sink, octets) == want,
-    }
-}
-
 // The sink answers a step so.
-fn takes(rt: &impl Abort, sink: &mut StdSink<Narrow<'_>>, step: Step) {
-    let agrees = answers(sink, step.0.as_bytes(), step.1);
-    assert!(rt; agrees && sink.faults() == step.2, "{}", step.0);
+fn takes(rt: &impl Abort, sink: &mut StdSink<Narrow<'_>>, (octets, want, faults): Step) {
+    let agrees = match want {
+        Want::Write(want) => sink.write(octets.as_bytes()) == want,
+        Want::Text(want) => write_text(sink, octets.as_bytes()) == want,
+    };
+    assert!(rt; agrees && sink.faults() == faults, "{octets}");
 }
 
 // A sink over a writer with room for eight octets takes these steps.
@@ -76,14 +71,10 @@ fn takes_all(rt: &impl Abort, taken: &mut Vec<u8>, steps: &[Step]) {
 }
 
 // The writer has taken all that there is room for.
-fn is_taken(rt: &impl Abort, taken: &[u8]) {
-    assert!(rt; taken == b"abcdefgh".as_slice());
-}
-
 #[test]
 fn takes_pieces_until_there_is_no_room(rt: HostRuntime) {
     let mut taken = Vec::new(rt.alloc());
     takes_all(&rt, &mut taken, STEPS.as_slice());
-    is_taken(&rt, taken.as_slice());
+    assert!(rt; taken.as_slice() == b"abcdefgh".as_slice());
     drop(taken);
 }
