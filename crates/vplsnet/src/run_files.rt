@@ -40,7 +40,7 @@ pub fn run_files<F: Shelf, K: Sink>(
 }
 
 // The scenario of a request, with the captures that it plays, or the outcome of what is refused first.
-#[tactic(auto, using(crate::proofs::ScenarioFileLemmas::work_steps, crate::proofs::ReadLemmas::reads_none, crate::proofs::TypedPlanLemmas::rehearsed_types))]
+#[tactic(auto, using(crate::proofs::ScenarioFileLemmas::work_steps, crate::proofs::ReadLemmas::reads_none))]
 fn work_of<F: Shelf>(alloc: Global, request: RunRequest<'_>, shelf: &mut F) -> Result<Work, Outcome>
     ensures come { IfOk result (λ work. ComesTo (Has (gained (F.reads shelf.old) (F.reads shelf.new))) (run_asked_by request.entry) (Works (Run work.scenario work.captures))) }
     ensures checked { IfOk result (λ work. IsChecked work.scenario.plan) }

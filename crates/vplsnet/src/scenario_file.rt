@@ -21,7 +21,7 @@ use std::alloc::Global;
 const SCENARIO_LIMIT: usize = 8_388_608;
 
 /// The scenario of a file; or the outcome of what is refused first: the file is read, and its octets are a scenario.
-#[tactic(auto, using(crate::proofs::ScenarioFileLemmas::one_file_steps, crate::proofs::ScenarioFileLemmas::no_scenario_by, crate::proofs::TypedPlanLemmas::read_types))]
+#[tactic(auto, using(crate::proofs::ScenarioFileLemmas::one_file_steps, crate::proofs::ScenarioFileLemmas::no_scenario_by))]
 pub fn file_scenario<F: Shelf>(
     alloc: Global,
     shelf: &mut F,
