@@ -19,7 +19,7 @@ use Rattle.rehearsal.specs.Scenario.{rehearsal}
 use Rattle.scenario_text.specs.declared.scenario.Scenario.{Scenario}
 use Rattle.scenario_text.specs.Document.{document}
 
--- ---- text is octets (RFC 3629 section 3)
+-- ---- text is octets
 
 abbrev AreSmall : List ℕ → Type 0
 AreSmall octets = AllByRecursion (λ octet. octet < 256) octets
