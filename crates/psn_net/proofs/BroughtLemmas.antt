@@ -27,6 +27,11 @@ brought old mid now (Ok done) copy event case copied is plan state trace stepped
   same = ap (λ (p : Plan). brings p case (network_seen mid)) plan ∙ (ap (λ (s : NetworkState). brings old.plan case s) state ∙ ap (λ (e : Event). brings old.plan e (network_seen old)) (sym is))
 brought old mid now (Err fault) copy event case copied is plan state trace stepped = tt
 
+-- the same of an event that was told before
+pub brought_by : (old now : NetLists) (result : Result (Unit {0}) NoMemory) (event case : Event) → event ≡ case
+    → OnOk result (HasStepped old now (brings old.plan case (network_seen old))) → OnOk result (HasStepped old now (brings old.plan event (network_seen old)))
+brought_by old now result event case is stepped = subst (λ (e : Event). OnOk result (HasStepped old now (brings old.plan e (network_seen old)))) (sym is) stepped
+
 pub absorbed : (me : EdgeId) (origin hops : ℕ) (old now : NetLists) (result : Result (Unit {0}) NoMemory) (effect case : Effect) → effect ≡ case
     → OnOk result (HasStepped old now (record { state = absorb_one me origin hops case (network_seen old); entries = entries_told me origin hops case (network_seen old) }))
     → OnOk result (HasStepped old now (record { state = absorb_one me origin hops effect (network_seen old); entries = entries_told me origin hops effect (network_seen old) }))

@@ -30,6 +30,7 @@ use Rattle.edge_model.specs.Work.{Work, beginning}
 use Rattle.network_model.specs.Absorb.{Stepped, absorb, absorb_all, all_entries_of, begin_at, taken_all}
 use Rattle.psn_net.specs.Lists.{AreOpen, HasDriven, HasEntered, HasStepped, IsNetwork, NetLists, edge_lists, edge_of, edge_outside, network_seen}
 use Rattle.psn_net.specs.Packets.{ArePacketsOf, UnderWay}
+use Rattle.psn_net.specs.Working.{HasWorked}
 use Rattle.octet_pipes.specs.Pipes.{PipeLists, no_octets}
 use Rattle.octet_pipes.specs.Pipes.{pipes_of}
 
@@ -48,33 +49,33 @@ seen_edge_set n me now state h w = λ i. record { edges = λ k. at_each k i; pip
         by true = w
         by false = refl
 
--- an edge took an input over a link that takes every call
-pub driving : (n : NetLists) (me : EdgeId) (now : EdgeLists) (calls : List LinkCall) (effects : Effects) (input : Input)
-    → me.0 < length n.edges → (edge_lists n me.0).plan ≡ n.plan
-    → edge.worked now calls effects ≡ edge_step (edge_lists n me.0).plan taken_all input (beginning (edge.seen (edge_lists n me.0)) [])
-    → HasDriven me n (record n { edges = slice_set n.edges me.0 now }) (edge_step n.plan taken_all input (begin_at (network_seen n) me)) effects
-unfolding edge.worked network_seen
-driving n me now calls effects input h planned took =
-    let same : edge.worked now calls effects ≡ edge_step n.plan taken_all input (begin_at (network_seen n) me) = took ∙ begins in
-    record {
-      state = seen_edge_set n me now (edge_step n.plan taken_all input (begin_at (network_seen n) me)).edge h (ap (λ (w : Work). w.edge) same);
-      effects_are = ap (λ (w : Work). w.effects) same;
-      idle_is = ap (λ (w : Work). w.idle) same;
-      told = refl;
-    } where
-      begins : edge_step (edge_lists n me.0).plan taken_all input (beginning (edge.seen (edge_lists n me.0)) []) ≡ edge_step n.plan taken_all input (begin_at (network_seen n) me)
-      begins = ap (λ (p : Plan). edge_step p taken_all input (beginning (edge.seen (edge_lists n me.0)) [])) planned
+-- an edge that took an input over a link that takes every call did the work of its step
+pub worked_so : (now : EdgeLists) (before calls : List LinkCall) (effects : Effects) (plan : Plan) (input : Input) (state : EdgeState) → before ≡ []
+    → edge.worked now calls effects ≡ edge_step plan taken_all input (beginning state before) → HasWorked now (edge_step plan taken_all input (beginning state [])) effects
+unfolding edge.worked
+worked_so now before calls effects plan input state none took =
+    let same : edge.worked now calls effects ≡ edge_step plan taken_all input (beginning state []) =
+    took ∙ ap (λ (l : List LinkCall). edge_step plan taken_all input (beginning state l)) none in
+    record { edge_is = ap (λ (w : Work). w.edge) same; effects_are = ap (λ (w : Work). w.effects) same; idle_is = ap (λ (w : Work). w.idle) same }
 
--- the same of the edge that was looked up, over a link that had no calls
-pub driving_at : (n : NetLists) (me : EdgeId) (found now : EdgeLists) (before calls : List LinkCall) (effects : Effects) (input : Input)
-    → me.0 < length n.edges → (edge_lists n me.0).plan ≡ n.plan → found ≡ slice_index_or n.edges me.0 found → before ≡ []
-    → edge.worked now calls effects ≡ edge_step found.plan taken_all input (beginning (edge.seen found) before)
+-- the edge that was looked up did the work of its step
+pub driving_at : (n : NetLists) (me : EdgeId) (found now : EdgeLists) (input : Input) (effects : Effects)
+    → me.0 < length n.edges → (edge_lists n me.0).plan ≡ n.plan → found ≡ slice_index_or n.edges me.0 found
+    → HasWorked now (edge_step found.plan taken_all input (beginning (edge.seen found) [])) effects
     → HasDriven me n (record n { edges = slice_set n.edges me.0 now }) (edge_step n.plan taken_all input (begin_at (network_seen n) me)) effects
-driving_at n me found now before calls effects input h planned is none took =
-    let same : found ≡ edge_lists n me.0 = is ∙ same_read n.edges me.0 found (edge_outside n.plan me.0) h in
-    driving n me now calls effects input h planned
-    (took ∙ (ap (λ (e : EdgeLists). edge_step e.plan taken_all input (beginning (edge.seen e) before)) same
-    ∙ ap (λ (l : List LinkCall). edge_step (edge_lists n me.0).plan taken_all input (beginning (edge.seen (edge_lists n me.0)) l)) none))
+unfolding network_seen
+driving_at n me found now input effects h planned is did = record {
+  state = seen_edge_set n me now (edge_step n.plan taken_all input (begin_at (network_seen n) me)).edge h (did.edge_is ∙ ap (λ (w : Work). w.edge) begins);
+  effects_are = did.effects_are ∙ ap (λ (w : Work). w.effects) begins;
+  idle_is = did.idle_is ∙ ap (λ (w : Work). w.idle) begins;
+  told = refl;
+} where
+  same : found ≡ edge_lists n me.0
+  same = is ∙ same_read n.edges me.0 found (edge_outside n.plan me.0) h
+
+  begins : edge_step found.plan taken_all input (beginning (edge.seen found) []) ≡ edge_step n.plan taken_all input (begin_at (network_seen n) me)
+  begins = ap (λ (e : EdgeLists). edge_step e.plan taken_all input (beginning (edge.seen e) [])) same
+      ∙ ap (λ (p : Plan). edge_step p taken_all input (beginning (edge.seen (edge_lists n me.0)) [])) planned
 
 pub fitting_at : (n : NetLists) (me : EdgeId) (found : EdgeLists) (effects : List Effect)
     → me.0 < length n.edges → (edge_lists n me.0).plan ≡ n.plan → found ≡ slice_index_or n.edges me.0 found → AllFit found.plan effects → AllFit n.plan effects

@@ -8,3 +8,4 @@ pub mod PairIndex
 pub mod Runs
 pub mod SharedPlan
 pub mod Weight
+pub mod Working

@@ -4,7 +4,7 @@ ghost use Rattle.net_base.specs.{plan.Accepted.{IsChecked}, plan.Planned.{IsEven
 ghost use Rattle.provider_edge.specs.Lists.{seen as seen_edge};
 ghost use Rattle.network_model.specs.{Connection.{is_deliverable}, Delivery.{first_pair, next_delivery}, Packet.{next_arrival}};
 ghost use Rattle.network_model.specs.{State.{edge_at, empty_network}, Step.{step}};
-ghost use Rattle.psn_net.specs.{Applying.{Stops}, Lists.{network_seen}, Weight.{stop_at, weight_of}};
+ghost use Rattle.psn_net.specs.{Applying.{Stops}, Lists.{network_seen}, Weight.{may_send, stop_at, weight_of}};
 
 mod calm;
 mod marking;
@@ -95,7 +95,7 @@ impl Network {
         if self.parts.has_failed() {
             return Err(NetStop::NoMemory);
         }
-        if let Some(stop) = self.parts.refusal(event) {
+        if let Some(stop) = self.parts.refusal_by(may_send(event)) {
             return Err(stop);
         }
         let told = self.parts.trace().len();
@@ -240,5 +240,16 @@ impl Network {
         ensures { result ≡ weight_of self.now.trace }
     {
         self.parts.weight()
+    }
+}
+
+// Whether an event may send a packet: a frame, an arrival, a repetition and a ping may.
+fn may_send(event: &Event) -> bool
+    ensures { result ≡ may_send event.now }
+{
+    match event {
+        Event::Frame { .. } | Event::Arrive { .. } | Event::Again { .. } | Event::Ping { .. } =>
+            true,
+        _ => false,
     }
 }

@@ -1,10 +1,10 @@
 //! The parts of a network.
 ghost use Rattle.std.specs.Prelude.{◌≡◌, ◌<◌, ◌+◌, ◌++◌, ◌∷◌, ◌^◌, ◌-◌, ◌↔◌, [], min, true, false, length, IfOk, IfSome, IsSome, OnErr, OnOk};
 ghost use Rattle.net_base.specs.{plan.Accepted.{IsChecked}, plan.Planned.{IsEventOf}};
-ghost use Rattle.edge_model.specs.Step.{edge_step};
+ghost use Rattle.edge_model.specs.{Step.{edge_step}, Work.{beginning}};
 ghost use Rattle.provider_edge.specs.{Lists.{seen as seen_edge}, Said.{AllFit}, Taking.{IsInRange}};
 ghost use Rattle.network_model.specs.{Absorb.{begin_at, taken_all}, State.{edge_at, empty_network}, Step.{step}};
-ghost use Rattle.psn_net.specs.{Lists.{HasDriven, HasRoom, HasStepped, KeepsNetwork, network_seen}, Weight.{may_send, stop_at, weight_of}};
+ghost use Rattle.psn_net.specs.{Lists.{HasDriven, HasRoom, HasStepped, KeepsNetwork, network_seen}, Weight.{may_send, stop_at, weight_of}, Working.{HasWorked}};
 
 mod absorb;
 mod carrying;
@@ -60,7 +60,6 @@ impl Model for Parts {
 
 impl Parts {
     /// The network of a plan before its first event, with room for so many entries.
-    #[tactic(auto, using(crate::proofs::NetworkLemmas::opening))]
     pub fn open(alloc: Global, plan: &Plan, entries: usize) -> Result<Parts, NoMemory>
         requires { IsChecked plan.now }
         ensures plan { IfOk result (λ parts. parts.plan ≡ plan.now) }
@@ -68,28 +67,36 @@ impl Parts {
         ensures trace { IfOk result (λ parts. parts.trace ≡ []) }
         ensures going { IfOk result (λ parts. parts.failed ≡ false) }
     {
-        let count = plan.edges.len();
         let plan = Rc::new(alloc, plan.copy(alloc)?)?;
-        let edges = open_edges(alloc, &plan, count)?;
-        Ok(Parts {
-            plan: SharedPlan::over(alloc, plan)?,
-            edges,
-            pipes: Pipes::open(alloc, count)?,
-            packets: Packets::new(alloc),
-            entered: 0,
-            ledger: Ledger::with_capacity(alloc, entries)?,
-            failed: false,
-        })
+        match SharedPlan::over(alloc, plan) {
+            Ok(shared) => Parts::with_plan(alloc, shared, entries),
+            Err(fault) => Err(fault),
+        }
     }
 
-    /// The limit that stops an event, where there is one. A frame, an arrival, a repetition and a ping may send a packet.
-    pub fn refusal(&self, event: &Event) -> Option<NetStop>
-        ensures { result ≡ stop_at self.now.trace (length (network_seen self.now).under_way) event.now }
+    // The same over the plan that its edges share.
+    #[tactic(auto, using(crate::proofs::NetworkLemmas::opening))]
+    fn with_plan(alloc: Global, plan: SharedPlan, entries: usize) -> Result<Parts, NoMemory>
+        requires { IsChecked plan }
+        ensures plan { IfOk result (λ parts. parts.plan ≡ plan) }
+        ensures state { IfOk result (λ parts. network_seen parts ≡ empty_network plan) }
+        ensures trace { IfOk result (λ parts. parts.trace ≡ []) }
+        ensures going { IfOk result (λ parts. parts.failed ≡ false) }
     {
-        match event {
-            Event::Frame { .. } | Event::Arrive { .. } | Event::Again { .. } | Event::Ping { .. } =>
-                self.refusal_by(true),
-            _ => self.refusal_by(false),
+        let count = plan.edges.len();
+        let pipes = Pipes::open(alloc, count)?;
+        let ledger = Ledger::with_capacity(alloc, entries)?;
+        match open_edges(alloc, plan.shared(), count) {
+            Ok(edges) => Ok(Parts {
+                plan,
+                edges,
+                pipes,
+                packets: Packets::new(alloc),
+                entered: 0,
+                ledger,
+                failed: false,
+            }),
+            Err(fault) => Err(fault),
         }
     }
 
@@ -134,22 +141,7 @@ impl Parts {
             Event::Arrive { packet } => self.arrive(alloc, packet),
             Event::Discard { packet } => self.discard(packet),
             Event::Again { packet } => self.again(alloc, packet),
-            Event::Circuit { circuit, on } => {
-                let me = self.edge_of(circuit);
-                self.answer_input(alloc, me, Input::Circuit { circuit, on })
-            }
-            Event::Wire { edge, wire, on } => {
-                self.answer_input(alloc, edge, Input::Wire { wire, on })
-            }
-            Event::Status { edge, wire, bits } => {
-                self.answer_input(alloc, edge, Input::Status { wire, bits })
-            }
-            Event::Priority {
-                edge,
-                wire,
-                priority,
-            } => self.answer_input(alloc, edge, Input::Priority { wire, priority }),
-            Event::Ping { edge, wire } => self.answer_input(alloc, edge, Input::Ping { wire }),
+            _ => self.answer(alloc, event),
         }
     }
 
@@ -220,13 +212,7 @@ impl Parts {
         ensures driven { IfOk result (HasDriven me self.old self.new (edge_step self.old.plan taken_all input.entry (begin_at (network_seen self.old) me))) }
         ensures fit { IfOk result (λ effects. AllFit self.old.plan effects.list) }
     {
-        let mut link = PsnLink::new();
-        let effects = match self.edges[me.0 as usize].take(alloc, input, &mut link) {
-            Ok(effects) => effects,
-            Err(_) => return Err(NoMemory),
-        };
-        link.close();
-        Ok(effects)
+        work_of(alloc, &mut self.edges[me.0 as usize], input)
     }
 
     /// The plan.
@@ -275,5 +261,23 @@ impl Parts {
         ensures { result ≡ weight_of self.now.trace }
     {
         self.ledger.weight()
+    }
+}
+
+// The work of an edge on an input, over a link that takes every call.
+pub(crate) fn work_of(alloc: Global, edge: &mut Edge, input: Input<'_>) -> Result<Effects, NoMemory>
+    requires range { IsInRange input }
+    ensures plan { edge.new.plan ≡ edge.old.plan }
+    ensures me { edge.new.me ≡ edge.old.me }
+    ensures worked { IfOk result (HasWorked edge.new (edge_step edge.old.plan taken_all input.entry (beginning (seen_edge edge.old) []))) }
+    ensures fit { IfOk result (λ effects. AllFit edge.old.plan effects.list) }
+{
+    let mut link = PsnLink::new();
+    match edge.take(alloc, input, &mut link) {
+        Ok(effects) => {
+            link.close();
+            Ok(effects)
+        }
+        Err(_) => Err(NoMemory),
     }
 }

@@ -51,6 +51,13 @@ impl SharedPlan {
         Ok(SharedPlan { plan, joined })
     }
 
+    /// The plan, as others share it.
+    pub fn shared(&self) -> &Rc<Plan>
+        ensures { result.now.value ≡ self.now }
+    {
+        &self.plan
+    }
+
     /// Whether a segment of some wire joins the two edges, in either direction (RFC 6073). It walks over no wire.
     pub fn joined(&self, a: EdgeId, b: EdgeId) -> bool
         requires a { a.0 < length self.now.edges }

@@ -10,7 +10,7 @@ use crate::departure::Departure;
 use crate::parts::Parts;
 use crate::trail::Trail;
 use edge_model::Effect;
-use net_base::{Arrival, EdgeId, Entry, NoMemory, Octets};
+use net_base::{Arrival, EdgeId, Entry, List, NoMemory, Octets};
 use std::alloc::Global;
 
 impl Parts {
@@ -21,20 +21,20 @@ impl Parts {
         alloc: Global,
         me: EdgeId,
         trail: Trail,
-        effects: Vec<Effect>,
+        effects: List<Effect>,
     ) -> Result<(), NoMemory>
         requires me { me.0 < length self.old.plan.edges }
-        requires fit { AllFit self.old.plan effects.items }
+        requires fit { AllFit self.old.plan effects }
         requires passed { trail.hops ≤ self.old.packets.last }
         requires room { HasRoom self.old }
         ensures keeps { KeepsNetwork self.old self.new }
         ensures room { OnOk result (HasRoom self.new) }
         ensures step { OnOk result (HasStepped self.old self.new (record {
-          state = absorb_all me trail.origin trail.hops effects.items (network_seen self.old);
-          entries = all_entries_of me trail.origin trail.hops effects.items (network_seen self.old);
+          state = absorb_all me trail.origin trail.hops effects (network_seen self.old);
+          entries = all_entries_of me trail.origin trail.hops effects (network_seen self.old);
         })) }
     {
-        for effect in effects {
+        for effect in effects.into_items() {
             self.absorb_one(alloc, me, trail, effect)?;
         }
         Ok(())

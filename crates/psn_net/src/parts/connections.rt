@@ -5,8 +5,7 @@ ghost use Rattle.network_model.specs.State.{with_pipe, without_octets_to};
 ghost use Rattle.provider_edge.specs.Said.{AllFit};
 ghost use Rattle.psn_net.specs.Lists.{HasDriven, HasRoom, HasStepped, KeepsNetwork, network_seen};
 
-use crate::parts::Parts;
-use crate::psn_link::PsnLink;
+use crate::parts::{Parts, work_of};
 use crate::trail::NO_TRAIL;
 use edge_model::{Effects, Input};
 use net_base::{EdgeId, Entry, NoMemory};
@@ -31,8 +30,8 @@ impl Parts {
         }
         let first = self.drive(alloc, from, Input::Connected { peer: to })?;
         let second = self.drive(alloc, to, Input::Connected { peer: from })?;
-        self.absorb(alloc, from, NO_TRAIL, first.list.into_items())?;
-        self.absorb(alloc, to, NO_TRAIL, second.list.into_items())
+        self.absorb(alloc, from, NO_TRAIL, first.list)?;
+        self.absorb(alloc, to, NO_TRAIL, second.list)
     }
 
     // The first octets on their way between two edges are delivered. Where none are and the end that put them is gone, the
@@ -74,9 +73,13 @@ impl Parts {
         ensures keeps { KeepsNetwork self.old self.new }
         ensures step { OnOk result (HasStepped self.old self.new (delivering self.old.plan from to count (network_seen self.old))) }
     {
-        let effects = self.hand_over(alloc, from, to, count)?;
-        self.give_up(from, to, count);
-        self.absorb(alloc, to, NO_TRAIL, effects.list.into_items())
+        match self.hand_over(alloc, from, to, count) {
+            Ok(effects) => {
+                self.give_up(from, to, count);
+                self.absorb(alloc, to, NO_TRAIL, effects.list)
+            }
+            Err(fault) => Err(fault),
+        }
     }
 
     // The receiver hears the octets, which still lie in the pipe.
@@ -95,17 +98,8 @@ impl Parts {
         ensures fit { IfOk result (λ effects. AllFit self.old.plan effects.list) }
     {
         let bytes = self.pipes.front(from, to, count as usize);
-        let mut link = PsnLink::new();
-        let effects = match self.edges[to.0 as usize].take(
-            alloc,
-            Input::Octets { peer: from, bytes },
-            &mut link,
-        ) {
-            Ok(effects) => effects,
-            Err(_) => return Err(NoMemory),
-        };
-        link.close();
-        Ok(effects)
+        let heard = Input::Octets { peer: from, bytes };
+        work_of(alloc, &mut self.edges[to.0 as usize], heard)
     }
 
     // The pipe gives up the octets. Cut for the prover: the step is not found where the pipes are opened beside it.
@@ -142,9 +136,13 @@ impl Parts {
         ensures keeps { KeepsNetwork self.old self.new }
         ensures step { OnOk result (HasStepped self.old self.new (restart_event me (network_seen self.old))) }
     {
-        let effects = self.drive(alloc, me, Input::Restart)?;
-        self.empty_pipes_to(me);
-        self.absorb(alloc, me, NO_TRAIL, effects.list.into_items())
+        match self.drive(alloc, me, Input::Restart) {
+            Ok(effects) => {
+                self.empty_pipes_to(me);
+                self.absorb(alloc, me, NO_TRAIL, effects.list)
+            }
+            Err(fault) => Err(fault),
+        }
     }
 
     // Nothing is on the way to an edge any more. Cut for the prover, as above.

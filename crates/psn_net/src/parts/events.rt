@@ -1,16 +1,17 @@
 //! The events of the network.
-ghost use Rattle.std.specs.Prelude.{◌≡◌, ◌<◌, ◌≤◌, ◌+◌, Some, length, IfOk, OnOk};
-ghost use Rattle.net_base.specs.plan.Places.{circuit_row};
+ghost use Rattle.std.specs.Prelude.{◌≡◌, ◌<◌, ◌≤◌, ◌+◌, Some, true, length, IfOk, OnOk};
+ghost use Rattle.net_base.specs.{plan.Places.{circuit_row}, plan.Planned.{IsEventOf}};
 ghost use Rattle.edge_model.specs.Step.{edge_step};
 ghost use Rattle.network_model.specs.{Absorb.{absorb, begin_at, taken_all}, Frame.{frame_event}, State.{with_frame}};
-ghost use Rattle.network_model.specs.Tick.{tick_event, ticks_from};
+ghost use Rattle.network_model.specs.{Step.{brings}, Tick.{tick_event, ticks_from}};
 ghost use Rattle.provider_edge.specs.Taking.{IsInRange};
 ghost use Rattle.psn_net.specs.Lists.{HasAnswered, HasEntered, HasRoom, HasStepped, KeepsNetwork, edge_of, network_seen};
+ghost use Rattle.psn_net.specs.Working.{is_answered};
 
 use crate::parts::Parts;
 use crate::trail::{NO_TRAIL, Trail};
 use edge_model::Input;
-use net_base::{CircuitId, EdgeId, Entry, NoMemory, Octets};
+use net_base::{CircuitId, EdgeId, Entry, Event, NoMemory, Octets};
 use std::alloc::Global;
 
 impl Parts {
@@ -60,18 +61,42 @@ impl Parts {
         ensures step { OnOk result (HasStepped self.old self.new (absorb me trail.origin trail.hops (edge_step self.old.plan taken_all input.entry (begin_at (network_seen self.old) me)) (network_seen self.old))) }
     {
         match self.drive(alloc, me, input) {
-            Ok(effects) => self.absorb(alloc, me, trail, effects.list.into_items()),
+            Ok(effects) => self.absorb(alloc, me, trail, effects.list),
             Err(fault) => Err(fault),
         }
     }
 
+    // Does an event that is the input of one edge.
+    pub(crate) fn answer(&mut self, alloc: Global, event: &Event) -> Result<(), NoMemory>
+        requires event { IsEventOf self.old.plan event.now }
+        requires answered { is_answered event.now ≡ true }
+        requires room { HasRoom self.old }
+        ensures keeps { KeepsNetwork self.old self.new }
+        ensures step { OnOk result (HasStepped self.old self.new (brings self.old.plan event.now (network_seen self.old))) }
+    {
+        match *event {
+            Event::Circuit { circuit, on } => {
+                let me = self.edge_of(circuit);
+                self.answer_input(alloc, me, Input::Circuit { circuit, on })
+            }
+            Event::Wire { edge, wire, on } => {
+                self.answer_input(alloc, edge, Input::Wire { wire, on })
+            }
+            Event::Status { edge, wire, bits } => {
+                self.answer_input(alloc, edge, Input::Status { wire, bits })
+            }
+            Event::Priority {
+                edge,
+                wire,
+                priority,
+            } => self.answer_input(alloc, edge, Input::Priority { wire, priority }),
+            Event::Ping { edge, wire } => self.answer_input(alloc, edge, Input::Ping { wire }),
+            _ => unreachable!(),
+        }
+    }
+
     // An edge takes an input. Where it does not apply that is told, and else the edge's work goes into the network.
-    pub(crate) fn answer_input(
-        &mut self,
-        alloc: Global,
-        me: EdgeId,
-        input: Input<'_>,
-    ) -> Result<(), NoMemory>
+    fn answer_input(&mut self, alloc: Global, me: EdgeId, input: Input<'_>) -> Result<(), NoMemory>
         requires me { me.0 < length self.old.plan.edges }
         requires range { IsInRange input }
         requires room { HasRoom self.old }
@@ -82,7 +107,7 @@ impl Parts {
         if effects.idle {
             return self.tell(Entry::Idle);
         }
-        self.absorb(alloc, me, NO_TRAIL, effects.list.into_items())
+        self.absorb(alloc, me, NO_TRAIL, effects.list)
     }
 
     // A customer's frame enters at a circuit.
@@ -111,7 +136,7 @@ impl Parts {
                 match self.enter(circuit, bytes) {
                     Ok(origin) => {
                         let trail = Trail { origin, hops: 0 };
-                        self.absorb(alloc, me, trail, effects.list.into_items())
+                        self.absorb(alloc, me, trail, effects.list)
                     }
                     Err(fault) => Err(fault),
                 }

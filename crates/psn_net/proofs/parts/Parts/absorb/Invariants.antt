@@ -13,7 +13,7 @@ invariant-loop-effect l =
       room : HasRoom l.self;
       passed : l.trail.hops ≤ l.self.packets.last;
       fit : AllFit l.fn.self.plan l.effect-iterator.rest.items;
-      state : absorb_all l.me l.trail.origin l.trail.hops l.effect-iterator.rest.items (network_seen l.self) ≡ absorb_all l.fn.me l.fn.trail.origin l.fn.trail.hops l.fn.effects.items (network_seen l.fn.self);
+      state : absorb_all l.me l.trail.origin l.trail.hops l.effect-iterator.rest.items (network_seen l.self) ≡ absorb_all l.fn.me l.fn.trail.origin l.fn.trail.hops l.fn.effects (network_seen l.fn.self);
       told : l.self.trace ++ all_entries_of l.me l.trail.origin l.trail.hops l.effect-iterator.rest.items (network_seen l.self)
-          ≡ l.fn.self.trace ++ all_entries_of l.fn.me l.fn.trail.origin l.fn.trail.hops l.fn.effects.items (network_seen l.fn.self);
+          ≡ l.fn.self.trace ++ all_entries_of l.fn.me l.fn.trail.origin l.fn.trail.hops l.fn.effects (network_seen l.fn.self);
     }

@@ -1,5 +1,5 @@
 -- Both edges have their ends, and then what they gave out is absorbed: that is the connection of two different edges that can connect.
-use Rattle.std.proofs.Common.{◌≡◌, Bool, OnOk, cond, false, nat_eq, rules, subst, sym, true}
+use Rattle.std.proofs.Common.{◌≡◌, Bool, OnOk, cond, false, nat_eq, refl, rules, subst, sym, true}
 use Rattle.std.proofs.lemmas.Result.{on_ok_weaker}
 use Rattle.network_model.specs.Absorb.{idle}
 use Rattle.network_model.specs.Connection.{can_connect, connected_work, connecting}
@@ -19,5 +19,5 @@ returns-clause-step c =
     (cond b (connecting c.args.from (connected_work plan network c.args.from c.args.to) c.args.to (connected_work plan network c.args.to c.args.from) network) (idle network)))) (sym can)
     (on_ok_weaker c.absorb-2.result
     (λ stepped. connect_stepped c.args.self.now c.drive.new.self c.drive-2.new.self c.absorb.new.self c.absorb-2.new.self c.args.from c.args.to
-    c.in_ok-first.first c.in_ok-second.second c.into_items.result.items c.into_items-2.result.items apart c.in_ok-first.ensures.keeps.plan
-    c.in_ok-first.ensures.driven c.in_ok-second.ensures.driven c.into_items.ensures c.in_ok-absorb.ensures.step c.into_items-2.ensures stepped) c.absorb-2.ensures.step)
+    c.in_ok-first.first c.in_ok-second.second c.in_ok-first.first.list c.in_ok-second.second.list apart c.in_ok-first.ensures.keeps.plan
+    c.in_ok-first.ensures.driven c.in_ok-second.ensures.driven refl c.in_ok-absorb.ensures.step refl stepped) c.absorb-2.ensures.step)

@@ -1,15 +1,18 @@
-use Rattle.std.proofs.Common.{◌∙◌, subst, sym}
+use Rattle.std.proofs.Common.{◌≡◌, ◌∙◌, IfOk, subst, sym}
 use Rattle.net_base.specs.declared.plan.Plan.{Plan}
-use Rattle.psn_net.specs.Lists.{AreOpen}
-use Rattle.psn_net.proofs.NetworkLemmas.{opened_network, opened_state}
+use Rattle.net_base.specs.plan.Accepted.{IsChecked}
+use Rattle.network_model.specs.State.{empty_network}
+use Rattle.psn_net.specs.Lists.{network_seen}
 use Rattle.psn_net.proofs.parts.Parts.open.Goals as goal
 
-pub invariant_of-result : goal.invariant_of-result
-invariant_of-result c =
-    opened_network c.args.plan.now _ _ _ _ _ _ c.requires (c.in_ok-over.ensures ∙ (c.in_ok-plan.ensures.ok ∙ c.in_ok-copy.ensures)) c.len-count.ensures
-    (subst (λ (p : Plan). AreOpen p c.len-count.result c.in_ok-edges.edges.items) (sym c.in_ok-over.ensures) c.in_ok-edges.ensures) c.in_ok-open.ensures.size c.new-2.ensures
+pub with_plan-requires : goal.with_plan-requires
+with_plan-requires c = subst IsChecked (sym (c.in-Ok.ensures ∙ (c.in_ok-plan.ensures.ok ∙ c.in_ok-copy.ensures))) c.requires
 
-pub returns-clause-state : goal.returns-clause-state
-returns-clause-state c =
-    opened_state c.args.plan.now _ _ _ _ _ _ (c.in_ok-over.ensures ∙ (c.in_ok-plan.ensures.ok ∙ c.in_ok-copy.ensures)) c.len-count.ensures
-    (subst (λ (p : Plan). AreOpen p c.len-count.result c.in_ok-edges.edges.items) (sym c.in_ok-over.ensures) c.in_ok-edges.ensures) c.in_ok-open.ensures.empty c.new-2.ensures c.in_ok-with_capacity.ensures
+pub returns-in-Ok-clause-plan : goal.returns-in-Ok-clause-plan
+returns-in-Ok-clause-plan c =
+    subst (λ (p : Plan). IfOk c.with_plan.result (λ parts. parts.plan ≡ p)) (c.in-Ok.ensures ∙ (c.in_ok-plan.ensures.ok ∙ c.in_ok-copy.ensures)) c.with_plan.ensures.plan
+
+pub returns-in-Ok-clause-state : goal.returns-in-Ok-clause-state
+returns-in-Ok-clause-state c =
+    subst (λ (p : Plan). IfOk c.with_plan.result (λ parts. network_seen parts ≡ empty_network p)) (c.in-Ok.ensures ∙ (c.in_ok-plan.ensures.ok ∙ c.in_ok-copy.ensures))
+    c.with_plan.ensures.state

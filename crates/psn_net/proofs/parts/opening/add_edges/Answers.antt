@@ -1,10 +1,10 @@
 use Rattle.std.proofs.Common.{◌∙◌, rules, subst, sym}
 use Rattle.psn_net.specs.Lists.{AreOpen}
 use Rattle.psn_net.proofs.NetworkLemmas.{open_next, open_none}
-use Rattle.psn_net.proofs.parts.opening.open_edges.Goals as goal
+use Rattle.psn_net.proofs.parts.opening.add_edges.Goals as goal
 
 pub loop-place-init : goal.loop-place-init
-loop-place-init c = subst (AreOpen c.args.plan.now.value 0) (sym c.new-edges.ensures.items) (open_none c.args.plan.now.value)
+loop-place-init c = subst (AreOpen c.args.plan.now.value 0) (sym c.requires.none) (open_none c.args.plan.now.value)
 
 pub loop-place-preserved : goal.loop-place-preserved
 loop-place-preserved c =
