@@ -1,7 +1,4 @@
-//! KeepAlives that an edge hears of its neighbour, for `bench/hear`, which measures them. Two numbers follow the program's name: how many
-//! KeepAlives a piece has, each in a PDU of its own, and how many pieces come. Prints how many were heard.
-#![tactic(auto)]
-
+//! KeepAlives that an edge hears of its neighbour.
 ghost use Rattle.net_base.specs.plan.Accepted.{IsChecked};
 ghost use Rattle.provider_edge.specs.Taking.{IsInRange};
 
@@ -10,8 +7,7 @@ use net_base::{EdgeId, List, MemLink, Plan, StateName};
 use provider_edge::Edge;
 use scenario_text::read_scenario;
 use std::alloc::Global;
-use std::env;
-use std::process::ExitCode;
+use std::mem;
 
 /// Two edges with a circuit each, and a wire between them.
 const PAIR: &str = r#"
@@ -33,39 +29,39 @@ const PROPOSAL: [u8; 36] = [
 
 const KEEP_ALIVE: [u8; 18] = [0, 1, 0, 14, 10, 0, 0, 1, 0, 0, 2, 1, 0, 4, 0, 0, 0, 2];
 
-fn main(rt: HostRuntime) -> ExitCode {
-    match told(&rt) {
-        Some(()) => ExitCode::from(0),
-        None => ExitCode::from(1),
+/// An edge hears so many pieces of so many KeepAlives each, every one in a PDU of its own; how many KeepAlives they had. `None` where the
+/// session is not up then, or something is held.
+pub fn heard_in_pair(alloc: Global, count: u32, pieces: u32) -> Option<u64> {
+    match read_scenario(alloc, PAIR.as_bytes()) {
+        Ok(scenario) => heard_in(alloc, &scenario.plan, count, pieces),
+        Err(_) => None,
     }
 }
 
-// Prints how many KeepAlives were heard.
-fn told(rt: &HostRuntime) -> Option<()> {
-    let (count, pieces) = numbers(rt)?;
-    let scenario = read_scenario(rt.alloc(), PAIR.as_bytes()).ok()?;
-    let heard = heard_in(rt.alloc(), &scenario.plan, count, pieces)?;
-    println!(rt; "{heard}").ok()
-}
-
-// The two numbers of the command line.
-fn numbers(rt: &HostRuntime) -> Option<(u32, u32)> {
-    let mut words = env::args(rt).ok()?.skip(1);
-    let count = words.next()?.parse::<u32>().ok()?;
-    let pieces = words.next()?.parse::<u32>().ok()?;
-    Some((count, pieces))
-}
-
-// The second edge of the plan hears the pieces over a link in memory; how many KeepAlives they had.
+// The second edge of the plan hears the pieces; how many KeepAlives they had.
 fn heard_in(alloc: Global, plan: &Plan, count: u32, pieces: u32) -> Option<u64>
     requires { IsChecked plan.now }
 {
     if plan.edges.len() < 2 {
         return None;
     }
-    let mut edge = Edge::open(alloc, plan, EdgeId(1)).ok()?;
-    let mut link = MemLink::new(alloc, List::new(alloc)).ok()?;
-    heard_over(alloc, &mut edge, &mut link, count, pieces)
+    match Edge::open(alloc, plan, EdgeId(1)) {
+        Ok(mut edge) => {
+            let heard = heard_by(alloc, &mut edge, count, pieces);
+            // The system takes all memory back at once.
+            mem::forget(edge);
+            heard
+        }
+        Err(_) => None,
+    }
+}
+
+// The edge hears the pieces over a link in memory; how many KeepAlives they had.
+fn heard_by(alloc: Global, edge: &mut Edge, count: u32, pieces: u32) -> Option<u64> {
+    match MemLink::new(alloc, List::new(alloc)) {
+        Ok(mut link) => heard_over(alloc, edge, &mut link, count, pieces),
+        Err(_) => None,
+    }
 }
 
 // The session comes up, and the edge hears the pieces; how many KeepAlives they had, where the session is up then, and nothing is held.

@@ -1,13 +1,11 @@
 //! An edge over a link in memory.
-ghost use Rattle.std.specs.Prelude.{◌<◌, length, IfSome};
-ghost use Rattle.net_base.specs.plan.Accepted.{IsChecked};
+ghost use Rattle.std.specs.Prelude.{IfSome};
 ghost use Rattle.provider_edge.specs.Taking.{IsInRange};
 
 use crate::effect::put_effect;
 use crate::input::Words;
-use crate::names::edge_of;
 use edge_model::{Effects, Input};
-use net_base::{EdgeId, List, MemLink, Plan, Sink};
+use net_base::{List, MemLink, Plan, Sink};
 use provider_edge::Edge;
 use std::alloc::Global;
 use text_lines::Page;
@@ -15,47 +13,12 @@ use text_lines::Page;
 /// The edge of a plan, and its link.
 #[derive(Drop)]
 pub struct Case<'a> {
-    plan: &'a Plan,
-    edge: Edge,
-    link: MemLink,
+    pub plan: &'a Plan,
+    pub edge: Edge,
+    pub link: MemLink,
 }
 
 impl<'a> Case<'a> {
-    /// The edge that the first line names, over a link that fails as the second one says.
-    pub fn open(alloc: Global, plan: &'a Plan, edge: &str, fails: &str) -> Option<Case<'a>>
-        requires { IsChecked plan.now }
-    {
-        let me = edge_of(plan, edge.strip_prefix("edge ")?)?;
-        let words = fails.strip_prefix("fails")?;
-        let mut numbers = List::new(alloc);
-        if !add_numbers(&mut numbers, words) {
-            return None;
-        }
-        Case::over(alloc, plan, me, numbers)
-    }
-
-    // The edge over a link of which the calls with these numbers fail.
-    fn over(alloc: Global, plan: &'a Plan, me: EdgeId, numbers: List<u64>) -> Option<Case<'a>>
-        requires checked { IsChecked plan.now }
-        requires me { me.0 < length plan.now.edges }
-    {
-        match MemLink::new(alloc, numbers) {
-            Ok(link) => Case::with_link(alloc, plan, me, link),
-            Err(_) => None,
-        }
-    }
-
-    // The edge over a link.
-    fn with_link(alloc: Global, plan: &'a Plan, me: EdgeId, link: MemLink) -> Option<Case<'a>>
-        requires checked { IsChecked plan.now }
-        requires me { me.0 < length plan.now.edges }
-    {
-        match Edge::open(alloc, plan, me) {
-            Ok(edge) => Some(Case { plan, edge, link }),
-            Err(_) => None,
-        }
-    }
-
     /// Takes an input, and answers what the edge gives out.
     pub fn take(&mut self, alloc: Global, line: &str) -> Option<Effects> {
         let words = Words::of(line);
@@ -84,6 +47,16 @@ impl<'a> Case<'a> {
             put_effect(page, sink, self.plan, effect).ok()?;
         }
         Some(())
+    }
+}
+
+/// A link of which the calls with the numbers of a text fail, a word each; `None` where a word is none, or memory was refused.
+pub fn link_of(alloc: Global, fails: &str) -> Option<MemLink> {
+    let mut numbers = List::new(alloc);
+    if add_numbers(&mut numbers, fails) {
+        MemLink::new(alloc, numbers).ok()
+    } else {
+        None
     }
 }
 
