@@ -47,10 +47,14 @@ impl Ledger {
     {
         let weight = (octets_in(&entry) as u64).saturating_add(64);
         let events = events_of_entry(&entry);
-        self.trace.push(entry)?;
-        self.weight = self.weight.saturating_add(weight);
-        self.events = self.events.saturating_add(events);
-        Ok(())
+        match self.trace.push(entry) {
+            Ok(()) => {
+                self.weight = self.weight.saturating_add(weight);
+                self.events = self.events.saturating_add(events);
+                Ok(())
+            }
+            Err(fault) => Err(fault),
+        }
     }
 
     /// The entries.

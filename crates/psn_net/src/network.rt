@@ -154,12 +154,14 @@ impl Network {
         ensures next { result ≡ next_delivery self.now.plan (network_seen self.now) }
         ensures planned { IfSome result (IsEventOf self.now.plan) }
     {
-        let (from, to) = self.next_pair()?;
-        Some(Event::Deliver {
-            from: EdgeId(from as u16),
-            to: EdgeId(to as u16),
-            count: MOST_OCTETS,
-        })
+        match self.next_pair() {
+            Some((from, to)) => Some(Event::Deliver {
+                from: EdgeId(from as u16),
+                to: EdgeId(to as u16),
+                count: MOST_OCTETS,
+            }),
+            None => None,
+        }
     }
 
     /// The next arrival: the packet under way with the lowest number. `None` exactly where none is under way. It is found

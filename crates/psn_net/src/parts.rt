@@ -4,7 +4,8 @@ ghost use Rattle.net_base.specs.{plan.Accepted.{IsChecked}, plan.Planned.{IsEven
 ghost use Rattle.edge_model.specs.{Step.{edge_step}, Work.{beginning}};
 ghost use Rattle.provider_edge.specs.{Lists.{seen as seen_edge}, Said.{AllFit}, Taking.{IsInRange}};
 ghost use Rattle.network_model.specs.{Absorb.{begin_at, taken_all}, State.{edge_at, empty_network}, Step.{step}};
-ghost use Rattle.psn_net.specs.{Lists.{HasDriven, HasRoom, HasStepped, KeepsNetwork, network_seen}, Weight.{may_send, stop_at, weight_of}, Working.{HasWorked}};
+ghost use Rattle.psn_net.specs.Lists.{HasDriven, HasRoom, HasStepped, KeepsNetwork, network_seen};
+ghost use Rattle.psn_net.specs.{Weight.{may_send, stop_at, weight_of}, Working.{HasWorked}};
 
 mod absorb;
 mod carrying;

@@ -46,9 +46,13 @@ impl SharedPlan {
         requires { IsChecked plan.value }
         ensures { IfOk result (λ shared. shared ≡ plan.value) }
     {
-        let mut joined = PairIndex::open(alloc, plan.edges.len())?;
-        mark_wires(&mut joined, &plan);
-        Ok(SharedPlan { plan, joined })
+        match PairIndex::open(alloc, plan.edges.len()) {
+            Ok(mut joined) => {
+                mark_wires(&mut joined, &plan);
+                Ok(SharedPlan { plan, joined })
+            }
+            Err(fault) => Err(fault),
+        }
     }
 
     /// The plan, as others share it.

@@ -210,7 +210,9 @@ impl Parts {
     {
         // Asked so that what always holds of it is at hand for the proof.
         let _told = self.ledger.trace().len();
-        self.packets.add(departure)?;
-        Ok(self.packets.last())
+        match self.packets.add(departure) {
+            Ok(()) => Ok(self.packets.last()),
+            Err(fault) => Err(fault),
+        }
     }
 }

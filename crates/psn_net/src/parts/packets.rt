@@ -134,7 +134,9 @@ impl Parts {
         ensures next { result ≡ next_arrival (network_seen self.now) }
         ensures planned { IfSome result (IsEventOf self.now.plan) }
     {
-        let packet = self.packets.first()?;
-        Some(Event::Arrive { packet })
+        match self.packets.first() {
+            Some(packet) => Some(Event::Arrive { packet }),
+            None => None,
+        }
     }
 }

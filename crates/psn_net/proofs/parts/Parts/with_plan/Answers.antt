@@ -1,4 +1,4 @@
-use Rattle.std.proofs.Common.{◌≡◌, ◌∙◌, length, ap, refl, rules, subst}
+use Rattle.std.proofs.Common.{◌≡◌, length, refl, rules, subst}
 use Rattle.net_base.specs.declared.plan.Plan.{Plan}
 use Rattle.psn_net.specs.Lists.{AreOpen}
 use Rattle.psn_net.proofs.NetworkLemmas.{opened_network, opened_state}
