@@ -1,18 +1,19 @@
 //! The top of a document: its version and its arrays.
-ghost use Rattle.std.specs.{Prelude.{◌≡◌, ◌≤◌, [], true, codes, length, IfNone, IfOk, IfSome}, List.{list_all}};
+ghost use Rattle.std.specs.Prelude.{◌≡◌, ◌≤◌, [], true, codes, length, IfNone, IfOk, IfSome};
 ghost use Rattle.toml.specs.{Data.{no_items, as_array}, View.{view, items_view, table_view}};
-ghost use Rattle.command_text.specs.{Events.{most_events}, Places.{place_of_key, top_row}, Reading.{MapsTo}};
-ghost use Rattle.scenario_text.specs.Values.{is_string, an_array, all_items, needed, defaulted};
-ghost use Rattle.scenario_text.specs.Top.{is_table, a_version, few, few_in, groups_at, arrays_at, arrays_in};
-ghost use Rattle.scenario_text.specs.Arrays.{arrays_of, HasLimits};
+ghost use Rattle.command_text.specs.{Events.{most_events}, Places.{top_row}, Reading.{MapsTo}};
+ghost use Rattle.scenario_text.specs.Values.{an_array, needed, defaulted};
+ghost use Rattle.scenario_text.specs.Top.{a_version, few, few_in, groups_at, arrays_at, arrays_in};
+ghost use Rattle.scenario_text.specs.Arrays.{arrays_of, has_kind, with_last_at, HasLimits};
 
 use crate::document_version::DocumentVersion;
+use crate::item_kind::ItemKind;
 use crate::keys::only_known_keys;
 use crate::limits::{
     MOST_CIRCUITS, MOST_EDGES, MOST_EVENTS, MOST_GROUPS, MOST_SERVICES, MOST_WIRES,
 };
 use crate::members::{member, needed_value};
-use crate::values::strings;
+use crate::values::items;
 use command_text::{RowPlace, ScenarioFault};
 use net_base::Table as TableKind;
 use std::alloc::Global;
@@ -46,52 +47,12 @@ fn version(table: &Table) -> Result<DocumentVersion, ScenarioFault>
     }
 }
 
-// Whether all are tables, one by one.
-fn each_is_table(array: &[Value]) -> bool
-    ensures { result ≡ list_all (λ v. is_table (view v)) array.now }
-{
-    array.iter().all(|value| value.is_table())
-}
-
-// Whether all are tables.
-fn are_tables(array: &[Value]) -> bool
-    ensures { result ≡ all_items is_table (items_view array.now) }
-{
-    each_is_table(array)
-}
-
-// An array of tables.
-fn tables<'a>(row: RowPlace, key: &str, value: &'a Value) -> Result<&'a [Value], ScenarioFault>
-    ensures { MapsTo (λ items. items_view items.now) result (an_array is_table (place_of_key row key.now) (view value.now)) }
-{
-    match value.as_array() {
-        Some(array) => {
-            let items = array.as_slice();
-            if !are_tables(items) {
-                return Err(row.wrong_kind(key));
-            }
-            Ok(items)
-        }
-        None => Err(row.wrong_kind(key)),
-    }
-}
-
-// The tables at a key, none where it is absent.
-fn tables_at<'a>(row: RowPlace, table: &'a Table, key: &str) -> Result<&'a [Value], ScenarioFault>
-    ensures { MapsTo (λ items. items_view items.now) result (defaulted no_items (an_array is_table) row key.now (table_view table.now)) }
+// The items of the array at a key of the top, none where it is absent.
+fn items_at<'a>(kind: ItemKind, table: &'a Table, key: &str) -> Result<&'a [Value], ScenarioFault>
+    ensures { MapsTo (λ items. items_view items.now) result (defaulted no_items (an_array (has_kind kind)) top_row key.now (table_view table.now)) }
 {
     match member(table, key) {
-        Some(value) => tables(row, key, value),
-        None => Ok(&[]),
-    }
-}
-
-// The strings at a key, none where it is absent.
-fn strings_at<'a>(row: RowPlace, table: &'a Table, key: &str) -> Result<&'a [Value], ScenarioFault>
-    ensures { MapsTo (λ items. items_view items.now) result (defaulted no_items (an_array is_string) row key.now (table_view table.now)) }
-{
-    match member(table, key) {
-        Some(value) => strings(row, key, value),
+        Some(value) => items(RowPlace::top(), key, kind, value),
         None => Ok(&[]),
     }
 }
@@ -102,31 +63,50 @@ fn groups(version: DocumentVersion, table: &Table) -> Result<&[Value], ScenarioF
 {
     match version {
         DocumentVersion::One => Ok(&[]),
-        DocumentVersion::Two => tables_at(RowPlace::top(), table, "group"),
+        DocumentVersion::Two => items_at(ItemKind::Tables, table, "group"),
+    }
+}
+
+// The arrays with the groups, the circuits and the wires that stand at the keys of the top.
+#[tactic(auto, unfolding(crate::specs::Arrays::with_last_at))]
+fn with_last<'a>(arrays: Arrays<'a>, table: &'a Table) -> Result<Arrays<'a>, ScenarioFault>
+    ensures { MapsTo arrays_of result (with_last_at (arrays_of arrays.entry) (table_view table.now)) }
+{
+    let groups = groups(arrays.version, table)?;
+    let circuits = items_at(ItemKind::Tables, table, "circuit")?;
+    match items_at(ItemKind::Tables, table, "wire") {
+        Ok(wires) => Ok(Arrays {
+            groups,
+            circuits,
+            wires,
+            ..arrays
+        }),
+        Err(fault) => Err(fault),
     }
 }
 
 // The arrays that stand at the keys of the top.
-#[tactic(auto, unfolding(crate::specs::Top::arrays_at))]
+#[tactic(auto, unfolding(crate::specs::Top::arrays_at, crate::specs::Arrays::with_last_at))]
 fn top_arrays(version: DocumentVersion, table: &Table) -> Result<Arrays<'_>, ScenarioFault>
     ensures { MapsTo arrays_of result (arrays_at version (table_view table.now)) }
 {
-    let row = RowPlace::top();
-    let events = strings_at(row, table, "events")?;
-    let edges = tables_at(row, table, "edge")?;
-    let services = tables_at(row, table, "service")?;
-    let groups = groups(version, table)?;
-    let circuits = tables_at(row, table, "circuit")?;
-    let wires = tables_at(row, table, "wire")?;
-    Ok(Arrays {
-        version,
-        events,
-        edges,
-        services,
-        groups,
-        circuits,
-        wires,
-    })
+    let events = items_at(ItemKind::Strings, table, "events")?;
+    let edges = items_at(ItemKind::Tables, table, "edge")?;
+    match items_at(ItemKind::Tables, table, "service") {
+        Ok(services) => {
+            let arrays = Arrays {
+                version,
+                events,
+                edges,
+                services,
+                groups: &[],
+                circuits: &[],
+                wires: &[],
+            };
+            with_last(arrays, table)
+        }
+        Err(fault) => Err(fault),
+    }
 }
 
 // Refuses an array of more items than the limit.

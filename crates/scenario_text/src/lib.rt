@@ -13,6 +13,7 @@ mod group_row;
 mod group_rows;
 mod group_use;
 mod groups;
+mod item_kind;
 mod keys;
 mod limits;
 mod members;

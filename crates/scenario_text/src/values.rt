@@ -2,8 +2,10 @@
 ghost use Rattle.std.specs.{Prelude.{◌≡◌, ◌≤◌, IfOk}, List.{list_all}};
 ghost use Rattle.toml.specs.View.{view, items_view};
 ghost use Rattle.command_text.specs.{Places.{place_of_key}, Reading.{Gives, MapsTo}};
-ghost use Rattle.scenario_text.specs.Values.{meant, a_text, a_name, quad_of, an_address, a_number, a_boolean, a_class, a_mode, a_description, is_string, an_array, names_in, a_path, all_items};
+ghost use Rattle.scenario_text.specs.Values.{meant, a_text, a_name, quad_of, an_address, a_number, a_boolean, a_class, a_mode, a_description, an_array, names_in, a_path, all_items};
+ghost use Rattle.scenario_text.specs.Arrays.{has_kind};
 
+use crate::item_kind::ItemKind;
 use command_text::{RowPlace, ScenarioFault, is_same};
 use net_base::{Addr, Class, List, Name, Text};
 use std::alloc::Global;
@@ -130,33 +132,42 @@ pub fn description(row: RowPlace, key: &str, value: &Value) -> Result<Text<80>, 
     }
 }
 
-// Whether all are strings, one by one.
-fn each_is_string(array: &[Value]) -> bool
-    ensures { result ≡ list_all (λ v. is_string (view v)) array.now }
+// Whether a value is of a kind.
+fn is_of(kind: ItemKind, value: &Value) -> bool
+    ensures { result ≡ has_kind kind (view value.now) }
 {
-    array.iter().all(|value| value.is_str())
+    match kind {
+        ItemKind::Strings => value.is_str(),
+        ItemKind::Tables => value.is_table(),
+    }
 }
 
-// Whether all are strings.
-fn are_strings(array: &[Value]) -> bool
-    ensures { result ≡ all_items is_string (items_view array.now) }
+// Whether all are of a kind, one by one.
+fn each_is_of(kind: ItemKind, array: &[Value]) -> bool
+    ensures { result ≡ list_all (λ v. has_kind kind (view v)) array.now }
 {
-    each_is_string(array)
+    array.iter().all(|value| is_of(kind, value))
 }
 
-/// An array of strings.
-pub fn strings<'a>(row: RowPlace, key: &str, value: &'a Value) -> Result<&'a [Value], ScenarioFault>
-    ensures { MapsTo (λ items. items_view items.now) result (an_array is_string (place_of_key row key.now) (view value.now)) }
+// Whether all are of a kind.
+fn are_of(kind: ItemKind, array: &[Value]) -> bool
+    ensures { result ≡ all_items (has_kind kind) (items_view array.now) }
+{
+    each_is_of(kind, array)
+}
+
+/// An array of items of a kind.
+pub fn items<'a>(
+    row: RowPlace,
+    key: &str,
+    kind: ItemKind,
+    value: &'a Value,
+) -> Result<&'a [Value], ScenarioFault>
+    ensures { MapsTo (λ items. items_view items.now) result (an_array (has_kind kind) (place_of_key row key.now) (view value.now)) }
 {
     match value.as_array() {
-        Some(array) => {
-            let items = array.as_slice();
-            if !are_strings(items) {
-                return Err(row.wrong_kind(key));
-            }
-            Ok(items)
-        }
-        None => Err(row.wrong_kind(key)),
+        Some(array) if are_of(kind, array.as_slice()) => Ok(array.as_slice()),
+        _ => Err(row.wrong_kind(key)),
     }
 }
 
@@ -186,7 +197,7 @@ pub fn path(
 ) -> Result<List<Name>, ScenarioFault>
     ensures { Gives result (a_path (place_of_key row key.now) (view value.now)) }
 {
-    match strings(row, key, value) {
+    match items(row, key, ItemKind::Strings, value) {
         Ok(items) => names(alloc, row, key, items),
         Err(fault) => Err(fault),
     }
