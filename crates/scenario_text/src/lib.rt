@@ -19,6 +19,7 @@ mod limits;
 mod members;
 mod named;
 mod names;
+mod offer_keys;
 mod offer_row;
 mod offers;
 mod plan;

@@ -2,7 +2,7 @@
 ghost use Rattle.std.specs.Prelude.{◌≡◌, option_map, IfOk};
 ghost use Rattle.toml.specs.View.{table_view};
 ghost use Rattle.scenario_text.specs.Rows.{near_in, far_in, ends_by_keys, end_or, ends_by_tables, ends_in, plain_offer};
-ghost use Rattle.scenario_text.specs.Offers.{HasRanges};
+ghost use Rattle.scenario_text.specs.Offers.{HasRanges, keys_view, offer_in, rest_in};
 
 use crate::document_version::DocumentVersion;
 use crate::end_rows::EndRows;
@@ -11,67 +11,98 @@ use crate::keys::only_known_keys;
 use crate::members::{
     boolean_or, description_or, group_or, mode_or, number_or, optional_number, optional_table,
 };
+use crate::offer_keys::OfferKeys;
 use crate::offer_row::OfferRow;
 use crate::table_row::TableRow;
 use command_text::{RowPlace, ScenarioFault};
 use net_base::{Table as TableKind, Text};
 use toml::Table;
 
-// What an end of a wire offers by keys without a prefix.
-#[tactic(auto, unfolding(crate::specs::Rows::near_in))]
-fn near_offer(row: TableRow<'_>) -> Result<OfferRow, ScenarioFault>
-    ensures exact { result ≡ near_in row.entry.version row.entry.place (table_view row.entry.table.now) }
+// An offer with what the row says of VCCV, status, group and description.
+#[tactic(auto, unfolding(crate::specs::Offers::rest_in))]
+fn with_rest(
+    keys: &OfferKeys,
+    front: &OfferRow,
+    row: TableRow<'_>,
+) -> Result<OfferRow, ScenarioFault>
+    requires { HasRanges front.now }
+    ensures exact { result ≡ rest_in (keys_view keys.now) front.now row.entry.version row.entry.place (table_view row.entry.table.now) }
     ensures ranges { IfOk result HasRanges }
 {
-    let tagged = mode_or(false, row, "mode")?;
-    let cword = boolean_or(true, row, "control_word")?;
-    let mtu = optional_number(None, row, "mtu", 0, 65535)?;
-    let vlan = optional_number(None, row, "vlan", 0, 4095)?;
-    let vccv = number_or(0, row, "vccv", 0, 7)? as u8;
-    let status = boolean_or(true, row, "status")?;
-    let group = group_or(row.version, GroupUse::Number(0), row, "group")?;
-    match description_or(&Text::read(&[]).unwrap(), row, "description") {
+    let vccv = number_or(front.vccv as u32, row, keys.vccv, 0, 7)? as u8;
+    let status = boolean_or(front.status, row, keys.status)?;
+    let group = group_or(row.version, front.group, row, keys.group)?;
+    match description_or(&front.description, row, keys.description) {
         Ok(description) => Ok(OfferRow {
-            tagged,
-            cword,
-            mtu,
-            vlan,
             vccv,
             status,
             group,
             description,
+            ..*front
         }),
         Err(fault) => Err(fault),
     }
 }
 
-// What the far end of a wire offers by its keys, which is the same as the near one where nothing else is said.
-#[tactic(auto, unfolding(crate::specs::Rows::far_in))]
-fn far_offer(near: &OfferRow, row: TableRow<'_>) -> Result<OfferRow, ScenarioFault>
-    requires { HasRanges near.now }
-    ensures exact { result ≡ far_in near.now row.entry.place (table_view row.entry.table.now) }
+// What an end of a wire offers by these keys, which is the same as another offer where nothing else is said.
+#[tactic(auto, unfolding(crate::specs::Offers::offer_in))]
+fn offer(keys: &OfferKeys, other: &OfferRow, row: TableRow<'_>) -> Result<OfferRow, ScenarioFault>
+    requires { HasRanges other.now }
+    ensures exact { result ≡ offer_in (keys_view keys.now) other.now row.entry.version row.entry.place (table_view row.entry.table.now) }
     ensures ranges { IfOk result HasRanges }
 {
-    let tagged = mode_or(near.tagged, row, "far_mode")?;
-    let cword = boolean_or(near.cword, row, "far_control_word")?;
-    let mtu = optional_number(near.mtu, row, "far_mtu", 0, 65535)?;
-    let vlan = optional_number(near.vlan, row, "far_vlan", 0, 4095)?;
-    let vccv = number_or(near.vccv as u32, row, "far_vccv", 0, 7)? as u8;
-    let status = boolean_or(near.status, row, "far_status")?;
-    let group = group_or(DocumentVersion::One, near.group, row, "far_group")?;
-    match description_or(&near.description, row, "far_description") {
-        Ok(description) => Ok(OfferRow {
-            tagged,
-            cword,
-            mtu,
-            vlan,
-            vccv,
-            status,
-            group,
-            description,
-        }),
+    let tagged = mode_or(other.tagged, row, keys.mode)?;
+    let cword = boolean_or(other.cword, row, keys.control_word)?;
+    let mtu = optional_number(other.mtu, row, keys.mtu, 0, 65535)?;
+    match optional_number(other.vlan, row, keys.vlan, 0, 4095) {
+        Ok(vlan) => {
+            let front = OfferRow {
+                tagged,
+                cword,
+                mtu,
+                vlan,
+                ..*other
+            };
+            with_rest(keys, &front, row)
+        }
         Err(fault) => Err(fault),
     }
+}
+
+// What an end offers of which nothing is said.
+fn plain() -> OfferRow
+    ensures exact { result ≡ plain_offer }
+    ensures ranges { HasRanges result }
+{
+    OfferRow {
+        tagged: false,
+        cword: true,
+        mtu: None,
+        vlan: None,
+        vccv: 0,
+        status: true,
+        group: GroupUse::Number(0),
+        description: Text::read(&[]).unwrap(),
+    }
+}
+
+// What an end of a wire offers by keys without a prefix.
+#[tactic(auto, using(crate::proofs::OfferLemmas::near_is))]
+fn near_offer(row: TableRow<'_>) -> Result<OfferRow, ScenarioFault>
+    ensures exact { result ≡ near_in row.entry.version row.entry.place (table_view row.entry.table.now) }
+    ensures ranges { IfOk result HasRanges }
+{
+    offer(&OfferKeys::near(), &plain(), row)
+}
+
+// What the far end of a wire offers by its keys, which is the same as the near one where nothing else is said.
+#[tactic(auto, using(crate::proofs::OfferLemmas::far_is))]
+fn far_offer(near: &OfferRow, row: TableRow<'_>) -> Result<OfferRow, ScenarioFault>
+    requires version { row.version ≡ DocumentVersion.One }
+    requires ranges { HasRanges near.now }
+    ensures { result ≡ far_in near.now row.entry.place (table_view row.entry.table.now) }
+{
+    offer(&OfferKeys::far(), near, row)
 }
 
 // The ends of a wire by its own keys.
@@ -110,22 +141,6 @@ fn end_of(
     match only_known_keys(DocumentVersion::Two, kind, row.place, table) {
         Ok(()) => Ok(offer),
         Err(fault) => Err(fault),
-    }
-}
-
-// What an end offers of which nothing is said.
-fn plain() -> OfferRow
-    ensures { result ≡ plain_offer }
-{
-    OfferRow {
-        tagged: false,
-        cword: true,
-        mtu: None,
-        vlan: None,
-        vccv: 0,
-        status: true,
-        group: GroupUse::Number(0),
-        description: Text::read(&[]).unwrap(),
     }
 }
 
