@@ -3,7 +3,7 @@
 use net_values::Mac;
 
 /// The service that a frame entered, and its source address. They are ordered by their services, and then by their addresses.
-#[derive(Clone, Copy, Debug, PartialEq, Eq, PartialOrd, Ord, Drop)]
+#[derive(Clone, Copy, PartialEq, Eq, PartialOrd, Ord, Drop)]
 pub struct Source {
     pub service: u16,
     pub address: Mac,

@@ -98,7 +98,16 @@ impl Windows {
         ensures { (trace : List Told) → HasHeard plan.now trace self → IfOk result (OnceAnswers plan.now trace) }
     {
         let mut windows = self;
-        windows.pass(plan)?;
-        Ok(windows.known.verdict(plan, &windows.exits))
+        windows.end(plan)
+    }
+
+    // The last event is over, and no entry is told behind it: the place that is told of all of them.
+    fn end(&mut self, plan: &Plan) -> Result<Option<u64>, NoMemory>
+        requires limits { IsWithinLimits plan.now }
+        requires ready { AreOf plan.now self.old }
+        ensures { (trace : List Told) → HasHeard plan.now trace self.old → IfOk result (OnceAnswers plan.now trace) }
+    {
+        self.pass(plan)?;
+        Ok(self.known.verdict(plan, &self.exits))
     }
 }

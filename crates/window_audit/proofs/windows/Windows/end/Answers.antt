@@ -1,4 +1,4 @@
-use Rattle.window_audit.proofs.windows.Windows.verdict.Goals as goal
+use Rattle.window_audit.proofs.windows.Windows.end.Goals as goal
 
 pub returns : goal.returns
 returns c = λ trace heard.
