@@ -64,9 +64,16 @@ with_opens plan before circuit octets rest entered (Some found) (Some opening) a
 
 -- ---- the event
 
-pub none_opens : (plan : Plan) (before : List Entry) (event : Event) (rest : List Entry) → ((circuit : CircuitId) (octets : List ℕ) → event ≡ Frame circuit octets → ⊥)
-    → IsOpened plan before event rest None
-none_opens plan before event rest other = record { only = λ w is. absurd (cc (is)); each = λ circuit octets service origin is opened. absurd (other circuit octets is) }
+-- whether a frame is put at a circuit
+abbrev pub is_frame : Event → Bool
+is_frame (Frame circuit octets) = true
+is_frame other = false
+
+pub none_opens : (plan : Plan) (before : List Entry) (event : Event) (rest : List Entry) → is_frame event ≡ false → IsOpened plan before event rest None
+none_opens plan before event rest other = record {
+  only = λ w is. absurd (cc (is));
+  each = λ circuit octets service origin is opened. absurd (cc (sym (ap is_frame is) ∙ other));
+}
 
 same_describes : (plan : Plan) (before : List Entry) (circuit : CircuitId) (octets : List ℕ) (rest : List Entry) (a b : ServiceId) (m n : ℕ) (w : Window) → a ≡ b → m ≡ n
     → Describes plan before circuit octets rest a m w → Describes plan before circuit octets rest b n w

@@ -98,7 +98,9 @@ impl Windows {
         ensures { (trace : List Told) → HasHeard plan.now trace self → IfOk result (OnceAnswers plan.now trace) }
     {
         let mut windows = self;
-        windows.end(plan)
+        let place = windows.end(plan);
+        drop(windows);
+        place
     }
 
     // The last event is over, and no entry is told behind it: the place that is told of all of them.
