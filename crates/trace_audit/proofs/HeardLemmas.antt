@@ -2,14 +2,16 @@
 use Rattle.std.proofs.Common.{◌≡◌, ◌<◌, ◌-◌, ◌++◌, ◌+◌, ◌∙◌, ℕ, suc, Bool, true, false, List, [], ◌∷◌, length, Result, Ok, Err, refl, sym, ap, subst, arith, append_assoc, append-nil}
 use Rattle.net_base.specs.declared.plan.Plan.{Plan}
 use Rattle.net_base.specs.declared.trace.entry.Entry.{Entry}
-use Rattle.report_entries.specs.Answers.{HasBegun}
+use Rattle.report_entries.specs.declared.report_fault.ReportFault.{ReportFault}
+use Rattle.report_entries.specs.declared.report_fault.ReportFault.TheVariants as fault
+use Rattle.report_entries.specs.Answers.{Begins, HasBegun}
 use Rattle.report_entries.specs.ReadSoFar.{ReadSoFar}
 use Rattle.report_entries.specs.Report.{goes_on, told_of, with_entry}
 use Rattle.trace_audit.specs.declared.audit_stop.AuditStop.{AuditStop}
 use Rattle.trace_audit.specs.declared.audit_stop.AuditStop.TheVariants as stop
 use Rattle.trace_audit.specs.declared.rule_audit.RuleAudit.{RuleAudit}
 use Rattle.trace_audit.specs.Audited.{IsAudited}
-use Rattle.trace_audit.specs.Heard.{AnswersRule, HasHeardAll, HearsReport, HearsLine, IsBehind, IsHeard, WereHeard, with_front_entries}
+use Rattle.trace_audit.specs.Heard.{AnswersRule, HasHeardAll, HearsReport, HearsLine, IsBehind, IsHeard, WereHeard, fault_stop, with_front_entries}
 
 entry_behind : (front : List Entry) (entry : Entry) (told : Result (List Entry) ℕ) → with_front_entries front (with_entry entry told) ≡ with_front_entries (front ++ entry ∷ []) told
 entry_behind front entry (Ok entries) = ap Ok (sym (append_assoc front (entry ∷ []) entries))
@@ -65,7 +67,7 @@ heard_last plan text left old rule_audit new heard result hears is some behind =
 
 -- a line could not be heard
 heard_stop : (plan : Plan) (text : List ℕ) (left : ℕ) (old : ReadSoFar) (rule_audit : RuleAudit) (new : ReadSoFar) (heard : RuleAudit) (why : AuditStop) → HearsLine plan old rule_audit new heard (Err why)
-    → IsBehind plan text (suc left) old rule_audit → HearsReport plan text (Err why)
+    → IsBehind plan text (suc left) old rule_audit → HearsReport plan text heard (Err why)
 heard_stop plan text left old rule_audit new heard (stop.Form line) hears behind = hears text left behind
 heard_stop plan text left old rule_audit new heard (stop.Isolated line) hears behind = absurd hears
 heard_stop plan text left old rule_audit new heard (stop.Split line) hears behind = absurd hears
@@ -74,9 +76,17 @@ heard_stop plan text left old rule_audit new heard stop.NoMemory hears behind = 
 
 pub heard_err : (plan : Plan) (text : List ℕ) (left : ℕ) (old : ReadSoFar) (rule_audit : RuleAudit) (new : ReadSoFar) (heard : RuleAudit) (result : Result Bool AuditStop) (why : AuditStop)
     → HearsLine plan old rule_audit new heard result → result ≡ Err why → 0 < left → IsBehind plan text left old rule_audit
-    → HearsReport plan text (Err why)
+    → HearsReport plan text heard (Err why)
 heard_err plan text left old rule_audit new heard result why hears is some behind =
     heard_stop plan text (left - 1) old rule_audit new heard why (subst (HearsLine plan old rule_audit new heard) is hears) (one_less plan text left old rule_audit some behind)
+
+-- the report that was begun
+pub begun_of : (text report : List ℕ) (reader : ReadSoFar) → text ≡ report → HasBegun text reader → HasBegun report reader
+begun_of text report reader whole begun = subst (λ (octets : List ℕ). HasBegun octets reader) whole begun
+
+pub fault_of : (plan : Plan) (text report : List ℕ) (why : ReportFault) → text ≡ report → Begins text (Err why) → IsAudited plan report (Err (fault_stop why))
+fault_of plan text report (fault.Form line) whole begins = sym (ap (told_of plan) whole) ∙ begins plan
+fault_of plan text report fault.NoMemory whole begins = tt
 
 -- what was heard was some trace
 pub was_told : (plan : Plan) (text : List ℕ) (rule_audit : RuleAudit) → IsHeard plan text rule_audit → WereHeard plan rule_audit

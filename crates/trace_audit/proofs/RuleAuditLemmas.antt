@@ -1,5 +1,5 @@
 -- What was heard of entries answers for their trace.
-use Rattle.std.proofs.Common.{◌≡◌, ◌<◌, ◌≤◌, ◌^◌, ◌++◌, ◌+◌, ◌∙◌, ℕ, List, [], ◌∷◌, length, length-append, Option, Some, None, Result, Ok, IfOk, refl, sym, ap, arith, subst}
+use Rattle.std.proofs.Common.{◌≡◌, ◌<◌, ◌≤◌, ◌^◌, ◌++◌, ◌+◌, ◌∙◌, ℕ, List, [], ◌∷◌, length, length-append, Option, Some, None, Result, Ok, Err, IfOk, refl, sym, ap, arith, subst}
 use Rattle.net_base.specs.declared.plan.Plan.{Plan}
 use Rattle.net_base.specs.declared.trace.entry.Entry.{Entry}
 use Rattle.net_base.specs.declared.trace.entry.Entry.TheVariants as kind
@@ -12,7 +12,9 @@ use Rattle.window_audit.proofs.OpenedLemmas.{place_within as place_most}
 use Rattle.trace_audit.specs.declared.rule_audit.RuleAudit.{RuleAudit}
 use Rattle.trace_audit.specs.declared.path_audit.PathAudit.{PathAudit}
 use Rattle.trace_audit.specs.Audited.{FirstOfOnce, FirstOfSplit, FirstStray, IsGoodTrace}
-use Rattle.trace_audit.specs.Heard.{IsAuditOf, HasHeardAll}
+use Rattle.trace_audit.specs.declared.audit_stop.AuditStop.{AuditStop}
+use Rattle.trace_audit.specs.declared.audit_stop.AuditStop.TheVariants as stop
+use Rattle.trace_audit.specs.Heard.{AnswersRule, IsAuditOf, HasHeardAll, broken_at}
 use Rattle.trace_audit.specs.Judged.{Judged, KnowsJudged, begun, judges, judges_all}
 use Rattle.trace_audit.proofs.FirstLemmas.{crossing_first, stray_first}
 use Rattle.trace_audit.proofs.PathLemmas.{crossings_told, strays_told}
@@ -77,6 +79,31 @@ answered_crossed plan trace rule_audit line is stray crossed = record {
   crossing = crossing_first plan trace line (crossed_known plan trace rule_audit.path_audit (Some line) is.judged crossed);
 }
 
+-- the first rule of paths that fails is told
+broken_told : (plan : Plan) (trace : List Entry) (rule_audit : RuleAudit) (stray crossed : Option ℕ) (why : AuditStop) → HasHeardAll plan trace rule_audit → rule_audit.path_audit.stray ≡ stray
+    → rule_audit.path_audit.crossed ≡ crossed → broken_at stray crossed ≡ Some why → AnswersRule plan trace (Err why)
+broken_told plan trace rule_audit (Some line) crossed why heard stray_is crossed_is is =
+    let same : stop.Isolated line ≡ why = cc (is) in
+    subst (λ (w : AuditStop). AnswersRule plan trace (Err w)) same (answered_stray plan trace rule_audit line heard stray_is)
+broken_told plan trace rule_audit None (Some line) why heard stray_is crossed_is is =
+    let same : stop.Split line ≡ why = cc (is) in
+    subst (λ (w : AuditStop). AnswersRule plan trace (Err w)) same (answered_crossed plan trace rule_audit line heard stray_is crossed_is)
+broken_told plan trace rule_audit None None why heard stray_is crossed_is is = absurd (cc (is))
+
+pub answered_path : (plan : Plan) (trace : List Entry) (rule_audit : RuleAudit) (why : AuditStop) → HasHeardAll plan trace rule_audit
+    → broken_at rule_audit.path_audit.stray rule_audit.path_audit.crossed ≡ Some why → AnswersRule plan trace (Err why)
+answered_path plan trace rule_audit why heard is = broken_told plan trace rule_audit rule_audit.path_audit.stray rule_audit.path_audit.crossed why heard refl refl is
+
+-- or none of them fails
+pub none_stray : (stray crossed : Option ℕ) → broken_at stray crossed ≡ None → stray ≡ None
+none_stray (Some line) crossed is = absurd (cc (is))
+none_stray None crossed is = refl
+
+pub none_crossed : (stray crossed : Option ℕ) → broken_at stray crossed ≡ None → crossed ≡ None
+none_crossed (Some line) crossed is = absurd (cc (is))
+none_crossed None (Some line) is = absurd (cc (is))
+none_crossed None None is = refl
+
 pub answered_once : (plan : Plan) (trace : List Entry) (rule_audit : RuleAudit) (place : ℕ) → HasHeardAll plan trace rule_audit → rule_audit.path_audit.stray ≡ None → rule_audit.path_audit.crossed ≡ None
     → OnceAnswers plan trace (Some place) → FirstOfOnce plan trace (place + 2)
 answered_once plan trace rule_audit place is stray crossed unserved = record {
@@ -94,5 +121,3 @@ answered_good plan trace rule_audit is stray crossed once = record {
   split = (crossings_told plan trace).0 (crossed_known plan trace rule_audit.path_audit None is.judged crossed);
   once = once;
 }
-
-pub ruleset answered = (answered_stray, answered_crossed, answered_once, answered_good)

@@ -1,5 +1,5 @@
 -- What was heard of a report line by line.
-use Rattle.std.specs.Prelude.{◌≡◌, ◌+◌, ◌++◌, ℕ, suc, Bool, true, false, List, Result, Ok, Err}
+use Rattle.std.specs.Prelude.{◌≡◌, ◌+◌, ◌++◌, ℕ, suc, Bool, true, false, List, Option, Some, None, Result, Ok, Err}
 use Rattle.net_base.specs.declared.plan.Plan.{Plan}
 use Rattle.net_base.specs.declared.trace.entry.Entry.{Entry}
 use Rattle.report_entries.specs.declared.report_fault.ReportFault.{ReportFault}
@@ -17,6 +17,12 @@ use Rattle.trace_audit.specs.Judged.{KnowsJudged, begun, judges_all}
 abbrev pub fault_stop : ReportFault → AuditStop
 fault_stop (fault.Form line) = Form line
 fault_stop fault.NoMemory = NoMemory
+
+-- the first of the rules of paths that fails, by the first lines at which they do
+abbrev pub broken_at : Option ℕ → Option ℕ → Option AuditStop
+broken_at (Some line) crossed = Some (Isolated line)
+broken_at None (Some line) = Some (Split line)
+broken_at None None = None
 
 -- entries in front of those that are told behind them
 abbrev pub with_front_entries : List Entry → Result (List Entry) ℕ → Result (List Entry) ℕ
@@ -59,14 +65,14 @@ HearsLine plan old rule_audit new heard (Err (Split line)) = ⊥
 HearsLine plan old rule_audit new heard (Err (Once line)) = ⊥
 HearsLine plan old rule_audit new heard (Err NoMemory) = Unit {0}
 
--- a whole report is heard
-abbrev pub HearsReport : Plan → List ℕ → Result RuleAudit AuditStop → Type 0
-HearsReport plan text (Ok rule_audit) = IsAuditOf plan rule_audit × IsHeard plan text rule_audit
-HearsReport plan text (Err (Form line)) = told_of plan text ≡ Err line
-HearsReport plan text (Err (Isolated line)) = ⊥
-HearsReport plan text (Err (Split line)) = ⊥
-HearsReport plan text (Err (Once line)) = ⊥
-HearsReport plan text (Err NoMemory) = Unit {0}
+-- the lines of a whole report are heard
+abbrev pub HearsReport : Plan → List ℕ → RuleAudit → Result (Unit {0}) AuditStop → Type 0
+HearsReport plan text rule_audit (Ok done) = IsAuditOf plan rule_audit × IsHeard plan text rule_audit
+HearsReport plan text rule_audit (Err (Form line)) = told_of plan text ≡ Err line
+HearsReport plan text rule_audit (Err (Isolated line)) = ⊥
+HearsReport plan text rule_audit (Err (Split line)) = ⊥
+HearsReport plan text rule_audit (Err (Once line)) = ⊥
+HearsReport plan text rule_audit (Err NoMemory) = Unit {0}
 
 -- the first rule of a trace that fails
 abbrev pub AnswersRule : Plan → List Entry → Result (Unit {0}) AuditStop → Type 0

@@ -1,8 +1,8 @@
 //! The frames that entered, found by their numbers.
 ghost use Rattle.std.specs.Prelude.{◌≡◌, ◌==◌, ◌≤◌, ◌<◌, ◌+◌, ◌++◌, ◌∷◌, [], ℕ, List, Some, false, length, take, drop, suc, is_some, OnOk, true, if◌then◌else◌};
 ghost use Rattle.seen_state.specs.Numbered.{value_at};
-ghost use Rattle.trace_audit.specs.Arrivals.{ArePlaced, ArePlacedInside, Entered, TellsArrivals, entered_of, first_at, first_under, frame_in};
-ghost use Rattle.trace_audit.specs.Arrivals.{has_come, has_other, is_entered, is_first, parts_of, with_came};
+ghost use Rattle.trace_audit.specs.Arrivals.{ArePlaced, ArePlacedInside, Entered, TellsArrivals, entered_of, first_at, first_under};
+ghost use Rattle.trace_audit.specs.Arrivals.{has_come, has_other, is_first, parts_of, with_came};
 
 use crate::entered_frame::{EnteredFrame, FrameParts, joined};
 use net_base::NoMemory;
@@ -89,19 +89,13 @@ impl Arrivals {
         ensures { result ≡ is_first (entered_of came.now) (first_under self.now came.now.number) }
     {
         match self.first(came.number) {
-            Some(first) => self.is_same(first, came),
+            Some(first) => {
+                came.number == first.number
+                    && (came.service == first.service
+                        && came.frame.as_slice() == self.frame(came.number, first))
+            }
             None => false,
         }
-    }
-
-    // Whether both are one frame in one service under one number.
-    fn is_same(&self, first: First, came: &EnteredFrame) -> bool
-        requires { first_at self.now.firsts (value_at self.now.places came.now.number) ≡ Some first }
-        ensures { result ≡ is_entered (entered_of came.now) (frame_in self.now.octets first) }
-    {
-        came.number == first.number
-            && (came.service == first.service
-                && came.frame.as_slice() == self.frame(came.number, first))
     }
 
     // Whether it is one of the others.
@@ -118,26 +112,20 @@ impl Arrivals {
         ensures { (known : List Entered) → TellsArrivals self.now known → result ≡ true → has_come known (parts_of frame.entry) ≡ true }
     {
         match self.first(frame.number) {
-            Some(first) => self.is_of(first, frame),
+            Some(first) => {
+                first.number == frame.number
+                    && first.service == frame.service
+                    && are_parts(frame.front, frame.back, self.frame(frame.number, first))
+            }
             None => false,
         }
-    }
-
-    // Whether the first frame under a number is seen to be this one.
-    fn is_of(&self, first: First, frame: FrameParts<'_>) -> bool
-        requires { first_at self.now.firsts (value_at self.now.places frame.number) ≡ Some first }
-        ensures { result ≡ true → frame_in self.now.octets first ≡ parts_of frame.entry }
-    {
-        first.number == frame.number
-            && first.service == frame.service
-            && are_parts(frame.front, frame.back, self.frame(frame.number, first))
     }
 
     /// A frame entered.
     pub fn add(&mut self, alloc: Global, frame: FrameParts<'_>) -> Result<(), NoMemory>
         ensures { OnOk result ((known : List Entered) → TellsArrivals self.old known → TellsArrivals self.new (with_came known (parts_of frame.entry))) }
     {
-        if self.has_number(frame.number)
+        if self.places.get(frame.number).is_some()
             || (frame.front.len() > 0xffff || frame.back.len() > 0xffff)
         {
             let came = joined(alloc, frame)?;
@@ -145,13 +133,6 @@ impl Arrivals {
         } else {
             self.add_first(frame)
         }
-    }
-
-    // Whether a frame entered under a number.
-    fn has_number(&self, number: u64) -> bool
-        ensures { result ≡ is_some (value_at self.now.places number) }
-    {
-        self.places.get(number).is_some()
     }
 
     // A frame entered, the first one under its number.

@@ -1,9 +1,10 @@
 //! What is known of a report behind the lines that were read.
 ghost use Rattle.std.specs.Prelude.{◌≡◌, true, ◌<◌, ◌+◌, ◌++◌, ◌^◌, List, IfOk, OnOk, option_map};
 ghost use Rattle.net_base.specs.{plan.Places.{is_mesh_wire}, trace.Split.{is_inside, is_switching_point}};
-ghost use Rattle.trace_audit.specs.Judged.{Judged, KnowsJudged, begun, came_after, crosses, entered_at, first_line, has_one, is_crossing, is_stray, judges};
-ghost use Rattle.trace_audit.specs.Arrivals.{Entered, TellsArrivals, parts_of};
+ghost use Rattle.trace_audit.specs.Judged.{Judged, KnowsJudged, begun, came_after, entered_at, first_line, has_one, is_crossing, is_stray, judges};
+ghost use Rattle.trace_audit.specs.{Arrivals.{Entered, TellsArrivals, parts_of}, Heard.{broken_at}};
 
+use crate::AuditStop;
 use crate::arrivals::Arrivals;
 use crate::entered_frame::{FrameParts, joined};
 use eth_encap::inner_at;
@@ -153,21 +154,6 @@ fn is_switching(plan: &Plan, edge: EdgeId, wire: WireId) -> bool
     }
 }
 
-// Whether what came so goes from one mesh wire to another one.
-fn crosses_mesh(plan: &Plan, from: EdgeId, wire: WireId, arrival: Arrival) -> bool
-    ensures { result ≡ crosses plan.now from wire arrival }
-{
-    match arrival {
-        Arrival::Wire(came) => {
-            is_mesh(plan, wire)
-                && is_mesh(plan, came)
-                && !(came.0 == wire.0 && is_switching(plan, from, wire))
-        }
-        Arrival::Circuit(_) => false,
-        Arrival::Own => false,
-    }
-}
-
 // Whether an entry tells of a packet that went from one mesh wire to another one.
 fn is_crossing_entry(plan: &Plan, entry: &Entry) -> bool
     ensures { result ≡ is_crossing plan.now entry.now }
@@ -176,9 +162,13 @@ fn is_crossing_entry(plan: &Plan, entry: &Entry) -> bool
         Entry::Sent {
             from,
             wire,
-            arrival,
+            arrival: Arrival::Wire(came),
             ..
-        } => crosses_mesh(plan, from, wire, arrival),
+        } => {
+            is_mesh(plan, wire)
+                && is_mesh(plan, came)
+                && !(came.0 == wire.0 && is_switching(plan, from, wire))
+        }
         _ => false,
     }
 }
@@ -229,6 +219,19 @@ impl PathAudit {
                     None
                 }
             }
+        }
+    }
+
+    /// The first of the rules of paths that fails, at its first line.
+    pub fn first_broken(&self) -> Option<AuditStop>
+        ensures { result ≡ broken_at self.now.stray self.now.crossed }
+    {
+        match self.stray {
+            Some(line) => Some(AuditStop::Isolated { line }),
+            None => match self.crossed {
+                Some(line) => Some(AuditStop::Split { line }),
+                None => None,
+            },
         }
     }
 

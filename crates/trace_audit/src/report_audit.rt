@@ -1,9 +1,9 @@
 //! The report of a run, judged line by line.
-ghost use Rattle.std.specs.Prelude.{◌≡◌, ◌<◌, ◌≤◌, ◌+◌, ◌^◌, [], OnOk};
+ghost use Rattle.std.specs.Prelude.{◌≡◌, ◌<◌, ◌≤◌, ◌+◌, ◌^◌, [], ℕ, List, length, OnOk};
 ghost use Rattle.net_base.specs.plan.Accepted.{IsChecked};
 ghost use Rattle.plan_names.specs.Planned.{names_of};
 ghost use Rattle.report_entries.specs.Answers.{HasBegun};
-ghost use Rattle.trace_audit.specs.{Audited.{IsAudited}, Heard.{IsAuditOf, HearsReport, HearsLine}};
+ghost use Rattle.trace_audit.specs.{Audited.{IsAudited}, Heard.{HasHeardAll, HearsLine, HearsReport, IsAuditOf}};
 
 use crate::AuditStop;
 use crate::rule_audit::RuleAudit;
@@ -49,22 +49,25 @@ fn hear_lines(
     alloc: Global,
     plan: &Plan,
     names: &PlanNames<'_>,
-    text: &[u8],
-    reader: ReportReader<'_>,
-) -> Result<RuleAudit, AuditStop>
+    reader: &mut ReportReader<'_>,
+    rule_audit: &mut RuleAudit,
+) -> Result<(), AuditStop>
+    ghost report: { List ℕ }
     requires checked { IsChecked plan.now }
     requires names { names.now ≡ names_of plan.now }
-    requires begun { HasBegun text.now reader }
-    ensures { HearsReport plan.now text.now result }
+    requires begun { HasBegun report reader.old }
+    requires few { length report < 2 ^ 63 }
+    requires ready { IsAuditOf plan.now rule_audit.old }
+    requires heard { HasHeardAll plan.now [] rule_audit.old }
+    requires line { rule_audit.old.path_audit.line ≡ 1 }
+    ensures { HearsReport plan.now report rule_audit.new result }
 {
-    let mut reader = reader;
-    let mut rule_audit = RuleAudit::new(alloc, plan)?;
     let mut left = reader.octets_left();
     'reading: while left > 0 {
         left -= 1;
-        match hear_next(alloc, plan, names, &mut reader, &mut rule_audit) {
+        match hear_next(alloc, plan, names, reader, rule_audit) {
             Ok(true) => {}
-            Ok(false) => return Ok(rule_audit),
+            Ok(false) => return Ok(()),
             Err(stop) => return Err(stop),
         }
     }
@@ -73,33 +76,52 @@ fn hear_lines(
     })
 }
 
-// Hears a whole report.
-fn hear_report(
+// Audits the lines of a report behind the first one.
+#[tactic(auto, using(crate::proofs::HeardLemmas::audited, crate::proofs::HeardLemmas::was_told))]
+fn audit_lines(
     alloc: Global,
     plan: &Plan,
     names: &PlanNames<'_>,
-    text: &[u8],
-) -> Result<RuleAudit, AuditStop>
+    reader: &mut ReportReader<'_>,
+) -> Result<(), AuditStop>
+    ghost report: { List ℕ }
     requires checked { IsChecked plan.now }
     requires names { names.now ≡ names_of plan.now }
-    ensures { HearsReport plan.now text.now result }
+    requires begun { HasBegun report reader.old }
+    requires few { length report < 2 ^ 63 }
+    ensures { IsAudited plan.now report result }
 {
-    match ReportReader::begin(alloc, text) {
-        Ok(reader) => hear_lines(alloc, plan, names, text, reader),
-        Err(fault) => Err(AuditStop::from(fault)),
+    let mut rule_audit = match RuleAudit::new(alloc, plan) {
+        Ok(rule_audit) => rule_audit,
+        Err(NoMemory) => return Err(AuditStop::NoMemory),
+    };
+    match hear_lines(alloc, plan, names, reader, &mut rule_audit) {
+        Ok(()) => rule_audit.answer(plan),
+        Err(stop) => {
+            drop(rule_audit);
+            Err(stop)
+        }
     }
 }
 
 // Audits a report by the names of the plan.
-#[tactic(auto, using(crate::proofs::HeardLemmas::audited, crate::proofs::HeardLemmas::was_told))]
+#[tactic(auto, using(crate::proofs::HeardLemmas::begun_of, crate::proofs::HeardLemmas::fault_of))]
 fn audit_by(alloc: Global, plan: &Plan, names: &PlanNames<'_>, text: &[u8]) -> Result<(), AuditStop>
+    ghost report: { List ℕ }
     requires checked { IsChecked plan.now }
     requires names { names.now ≡ names_of plan.now }
-    ensures { IsAudited plan.now text.now result }
+    requires whole { text.now ≡ report }
+    requires few { length report < 2 ^ 63 }
+    ensures { IsAudited plan.now report result }
 {
-    match hear_report(alloc, plan, names, text) {
-        Ok(rule_audit) => rule_audit.answer(plan),
-        Err(stop) => Err(stop),
+    match ReportReader::begin(alloc, text) {
+        Ok(reader) => {
+            let mut reader = reader;
+            let answer = audit_lines(alloc, plan, names, &mut reader);
+            drop(reader);
+            answer
+        }
+        Err(fault) => Err(AuditStop::from(fault)),
     }
 }
 

@@ -1,8 +1,8 @@
 //! What was heard of the entries of a report.
-ghost use Rattle.std.specs.Prelude.{◌≡◌, ◌<◌, ◌+◌, ◌++◌, ◌∷◌, ◌^◌, [], List, IfOk, OnOk};
+ghost use Rattle.std.specs.Prelude.{◌≡◌, ◌<◌, ◌+◌, ◌++◌, ◌∷◌, ◌^◌, [], List, None, IfOk, OnOk};
 ghost use Rattle.net_base.specs.{declared.trace.entry.Entry.{Entry as Told}, plan.Accepted.{IsChecked}};
 ghost use Rattle.seen_state.specs.Placed.{IsPlaced};
-ghost use Rattle.trace_audit.specs.Heard.{AnswersRule, IsAuditOf, HasHeardAll, WereHeard};
+ghost use Rattle.trace_audit.specs.Heard.{AnswersRule, IsAuditOf, HasHeardAll, WereHeard, broken_at};
 
 use crate::AuditStop;
 use crate::path_audit::PathAudit;
@@ -59,20 +59,32 @@ impl RuleAudit {
         requires told { WereHeard plan.now self }
         ensures { (trace : List Told) → HasHeardAll plan.now trace self → AnswersRule plan.now trace result }
     {
+        match self.path_audit.first_broken() {
+            Some(stop) => {
+                drop(self);
+                Err(stop)
+            }
+            None => self.answer_once(plan),
+        }
+    }
+
+    // Whether the rule of windows fails, where those of paths hold, and at which line first.
+    fn answer_once(self, plan: &Plan) -> Result<(), AuditStop>
+        requires checked { IsChecked plan.now }
+        requires ready { IsAuditOf plan.now self }
+        requires told { WereHeard plan.now self }
+        requires kept { broken_at self.path_audit.stray self.path_audit.crossed ≡ None }
+        ensures { (trace : List Told) → HasHeardAll plan.now trace self → AnswersRule plan.now trace result }
+    {
         let RuleAudit {
             path_audit,
             windows,
         } = self;
-        match path_audit.stray {
-            Some(line) => Err(AuditStop::Isolated { line }),
-            None => match path_audit.crossed {
-                Some(line) => Err(AuditStop::Split { line }),
-                None => match windows.verdict(plan) {
-                    Ok(None) => Ok(()),
-                    Ok(Some(place)) => Err(AuditStop::Once { line: place + 2 }),
-                    Err(NoMemory) => Err(AuditStop::NoMemory),
-                },
-            },
+        drop(path_audit);
+        match windows.verdict(plan) {
+            Ok(None) => Ok(()),
+            Ok(Some(place)) => Err(AuditStop::Once { line: place + 2 }),
+            Err(NoMemory) => Err(AuditStop::NoMemory),
         }
     }
 }
