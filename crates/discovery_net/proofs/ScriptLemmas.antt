@@ -13,16 +13,10 @@ use Rattle.discovery_net.specs.Acts.{course}
 use Rattle.discovery_net.specs.Deeds.{Discovery, discovery_opened}
 use Rattle.discovery_net.specs.Lines.{acts_of, after_line}
 use Rattle.discovery_net.specs.Lists.{DiscoveryLists, HaltsIn, HasDoneActs, IsAt, course_on, ended_at}
-use Rattle.discovery_net.specs.Script.{events_made, script_acts, script_course}
+use Rattle.discovery_net.specs.Script.{IsUnderWay, events_made, script_acts, script_course}
 use Rattle.discovery_net.proofs.CourseLemmas.{course_ran, halted_at, network_of}
 
--- the network in the middle of a script, of which these lines are left
-pub record IsUnderWay (plan : Plan) (all left : List ScriptLine) (now : DiscoveryLists) : Type 0 where
-  pub discovery : Discovery
-  pub at : IsAt discovery now
-  pub comes : course_on now (script_acts plan discovery left) ≡ script_course plan all
-
-pub way_first : (plan : Plan) (all : List ScriptLine) (now : DiscoveryLists) → now.network.plan ≡ plan → now.network.trace ≡ [] → now.notes ≡ [] → IsAt (discovery_opened plan) now → IsUnderWay plan all all now
+way_first : (plan : Plan) (all : List ScriptLine) (now : DiscoveryLists) → now.network.plan ≡ plan → now.network.trace ≡ [] → now.notes ≡ [] → IsAt (discovery_opened plan) now → IsUnderWay plan all all now
 way_first plan all now same trace notes at = record {
   discovery = discovery_opened plan;
   at = at;
@@ -58,6 +52,14 @@ way_ended plan all items now none begun =
 pub events_ran : (plan : Plan) (lines : List ScriptLine) (n : DiscoveryLists) (stop : Option NetStop) → ended_at n stop ≡ script_course plan lines → ended n.network stop
     ≡ ran plan (empty_network plan) [] (events_made plan lines)
 events_ran plan lines n stop is = ap network_of is ∙ course_ran plan (empty_network plan) [] [] (script_acts plan (discovery_opened plan) lines)
+
+-- what all lines come to is what the script comes to
+pub script_ended : (plan : Plan) (lines : List ScriptLine) (stop : Option NetStop) (first last : DiscoveryLists) → first.network.plan ≡ plan → first.network.trace ≡ [] → first.notes ≡ []
+    → IsAt (discovery_opened plan) first
+    → ((all : List ScriptLine) → IsUnderWay first.network.plan all lines first → ended_at last stop ≡ script_course first.network.plan all) → ended_at last stop ≡ script_course plan lines
+script_ended plan lines stop first last same trace notes at ends =
+    subst (λ (p : Plan). ended_at last stop ≡ script_course p lines) same
+    (ends lines (subst (λ (p : Plan). IsUnderWay p lines lines first) (sym same) (way_first plan lines first same trace notes at)))
 
 -- the next line names places of the plan
 pub line_first : (plan other : Plan) (items left : List ScriptLine) (line : ScriptLine) → items ≡ line ∷ left → other ≡ plan → All (IsDiscoveryLineOf plan) items → IsDiscoveryLineOf other line

@@ -7,6 +7,7 @@ use Rattle.discovery_script.specs.declared.script_line.ScriptLine.{ScriptLine}
 use Rattle.discovery_net.specs.Acts.{Act, Course, course, events_in}
 use Rattle.discovery_net.specs.Deeds.{Discovery, adjacency_lives, discovery_opened}
 use Rattle.discovery_net.specs.Lines.{acts_of, after_line}
+use Rattle.discovery_net.specs.Lists.{DiscoveryLists, IsAt, course_on}
 
 -- the acts of lines in turn
 abbrev pub script_acts : Plan → Discovery → List ScriptLine → List Act
@@ -21,6 +22,12 @@ after_lines plan d (line ∷ lines) = after_lines plan (after_line plan d line) 
 -- what a script comes to
 abbrev pub script_course : Plan → List ScriptLine → Course
 script_course plan lines = course plan (empty_network plan) [] [] (script_acts plan (discovery_opened plan) lines)
+
+-- the network in the middle of a script, of which these lines are left
+pub record IsUnderWay (plan : Plan) (all left : List ScriptLine) (now : DiscoveryLists) : Type 0 where
+  pub discovery : Discovery
+  pub at : IsAt discovery now
+  pub comes : course_on now (script_acts plan discovery left) ≡ script_course plan all
 
 -- the events that its lines make
 abbrev pub events_made : Plan → List ScriptLine → List Event
