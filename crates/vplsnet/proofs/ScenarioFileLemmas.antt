@@ -1,5 +1,5 @@
 -- What a scenario's file comes to.
-use Rattle.std.proofs.Common.{◌≡◌, ◌≤◌, ◌++◌, ◌∷◌, ◌∙◌, [], ℕ, List, Some, None, Ok, Err, Option, Result, IfErr, refl, ap, sym, subst, length, append_assoc, inl, inr}
+use Rattle.std.proofs.Common.{◌≡◌, ◌≤◌, ◌++◌, ◌∷◌, ◌∙◌, [], ℕ, List, Some, None, Ok, Err, Option, Result, refl, ap, sym, subst, length, append_assoc, inl, inr}
 use Rattle.std.proofs.lemmas.List.{append-nil}
 use Rattle.std.proofs.lemmas.List.Elements.{All-nil}
 use Rattle.std.specs.List.{All}
@@ -301,11 +301,6 @@ lacks_some start middle last before between after asked file scenario outcome on
   by (Stopped stop) lacks = absurd lacks
   by (DecodeRefused fault) lacks = absurd lacks
   by (Unfinished at) lacks = absurd lacks
-
--- the same of an error, where there is one
-pub err_as : {T : Type 0} → (result : Result T Outcome) (P Q : Outcome → Type 0) → IfErr result P → ((outcome : Outcome) → P outcome → Q outcome) → IfErr result Q
-err_as (Ok value) P Q of follows = tt
-err_as (Err outcome) P Q of follows = follows outcome of
 
 -- the circuit that is named is not there
 pub lacks_named : (files : Files) (before after : List ℕ → ℕ) (asked : Asked) (scenario : Scenario) (circuit : List ℕ) (outcome : Outcome) → Some circuit

@@ -13,7 +13,7 @@ use crate::named_file::octets_of;
 use crate::outcome::Outcome;
 use crate::run_request::RunRequest;
 use crate::work::Work;
-use net_base::{Shelf, Word};
+use net_base::{List, Octets, Shelf, Word};
 use scenario_text::{Scenario, ScenarioFault, read_scenario};
 use std::alloc::Global;
 
@@ -65,7 +65,10 @@ pub fn scenario_of<F: Shelf>(
     ensures reads { GainsReads (IsReadOfNext (Has (gained (F.reads shelf.old) (F.reads shelf.new))) (run_asked_by request.entry)) (F.reads shelf.old) (F.reads shelf.new) }
 {
     match file_scenario(alloc, shelf, file) {
-        Ok(scenario) => with_captures(alloc, shelf, request, scenario),
+        Ok(scenario) => match captures_behind(alloc, shelf, request, &scenario) {
+            Ok(captures) => Ok(Work { scenario, captures }),
+            Err(outcome) => Err(outcome),
+        },
         Err(outcome) => Err(outcome),
     }
 }
@@ -81,29 +84,25 @@ fn refused(fault: ScenarioFault) -> Outcome
     }
 }
 
-// The scenario with the captures that it plays, where it has the circuit that the request names, if it names one. Apart, since the
-// lemmas of `scenario_of` rest on its clauses.
+// The captures that a scenario plays, where it has the circuit that the request names, if it names one. Apart, since the lemmas of
+// `scenario_of` rest on its clauses.
 #[tactic(auto, using(crate::proofs::ScenarioFileLemmas::lack_steps, crate::proofs::ReadLemmas::capture_steps))]
-fn with_captures<F: Shelf>(
+fn captures_behind<F: Shelf>(
     alloc: Global,
     shelf: &mut F,
     request: RunRequest<'_>,
-    scenario: Scenario,
-) -> Result<Work, Outcome>
-    ensures same { IfOk result (λ work. work.scenario ≡ scenario) }
-    ensures all { IfOk result (λ work. HasAll (gained (F.reads shelf.old) (F.reads shelf.new)) (run_asked_by request.entry) scenario work.captures) }
-    ensures frames { IfOk result (λ work. All (All IsFrame) work.captures) }
-    ensures lacks { IfErr result (LacksSome (gained (F.reads shelf.old) (F.reads shelf.new)) (F.faults shelf.old) (F.faults shelf.new) (run_asked_by request.entry) scenario) }
-    ensures reads { GainsReads (IsCaptureRead (gained (F.reads shelf.old) (F.reads shelf.new)) (run_asked_by request.entry) scenario) (F.reads shelf.old) (F.reads shelf.new) }
+    scenario: &Scenario,
+) -> Result<List<List<Octets>>, Outcome>
+    ensures all { IfOk result (HasAll (gained (F.reads shelf.old) (F.reads shelf.new)) (run_asked_by request.entry) scenario.now) }
+    ensures frames { IfOk result (All (All IsFrame)) }
+    ensures lacks { IfErr result (LacksSome (gained (F.reads shelf.old) (F.reads shelf.new)) (F.faults shelf.old) (F.faults shelf.new) (run_asked_by request.entry) scenario.now) }
+    ensures reads { GainsReads (IsCaptureRead (gained (F.reads shelf.old) (F.reads shelf.new)) (run_asked_by request.entry) scenario.now) (F.reads shelf.old) (F.reads shelf.new) }
 {
-    if let Some(circuit) = missing_circuit(request, &scenario.plan) {
-        return match Word::new(alloc, circuit) {
+    match missing_circuit(request, &scenario.plan) {
+        Some(circuit) => match Word::new(alloc, circuit) {
             Ok(circuit) => Err(Outcome::NoCircuit(circuit)),
             Err(_) => Err(Outcome::NoMemory),
-        };
-    }
-    match captures_of(alloc, shelf, scenario.commands.as_slice()) {
-        Ok(captures) => Ok(Work { scenario, captures }),
-        Err(outcome) => Err(outcome),
+        },
+        None => captures_of(alloc, shelf, scenario.commands.as_slice()),
     }
 }
