@@ -3,7 +3,7 @@ use Rattle.std.proofs.Common.{◌≡◌, ℕ, List, [], ◌∷◌, Option, None,
 use Rattle.std.specs.List.{All}
 use Rattle.std.proofs.lemmas.List.Elements.{All-cons, All-head, All-nil, All-tail}
 use Rattle.net_base.specs.declared.plan.Plan.{Plan}
-use Rattle.net_base.specs.outside.Outside.{ReadCall, Rose}
+use Rattle.net_base.specs.outside.Outside.{ReadCall}
 use Rattle.net_base.specs.plan.Accepted.{IsChecked}
 use Rattle.flight_laws.specs.Ends.{AreFieldOffers, HasTypes as HasFieldTypes}
 use Rattle.psn_net.specs.Lists.{NetLists}
@@ -17,9 +17,9 @@ use Rattle.switchover_model.specs.Laws.{HasGroups, HasSwitchTypes, IsRouter}
 use Rattle.switchover_model.proofs.AgreeLemmas.{scripts_agree}
 use Rattle.switchover_script.specs.Lines.{switch_lines_in}
 use Rattle.switchover_text.specs.Text.{switchover_report}
-use Rattle.text_lines.specs.Written.{Written, AppendsFront, Writes, lines_written}
+use Rattle.text_lines.specs.Written.{Written, lines_written}
 use Rattle.vplsnet.specs.declared.outcome.Outcome.{Outcome}
-use Rattle.vplsnet.specs.declared.outcome.Outcome.TheVariants.{Done, WriteFault, ScenarioRefused, NoMemory}
+use Rattle.vplsnet.specs.declared.outcome.Outcome.TheVariants.{Done, ScenarioRefused, NoMemory}
 use Rattle.vplsnet.specs.Answers.{SaysOutcome}
 use Rattle.vplsnet.specs.Around.{Around, Files, Has, IsUntouched}
 use Rattle.vplsnet.specs.Asked.{Switchover}
@@ -28,11 +28,11 @@ use Rattle.vplsnet.specs.PlanFile.{HasBoth, IsReadOfTwo, LacksOne, ReadsSecond}
 use Rattle.vplsnet.specs.Reads.{GainsReads, IsReadOfNext}
 use Rattle.vplsnet.specs.ScriptFile.{EndsScript, outcome_of_script}
 use Rattle.vplsnet.specs.Switchover.{AgreesBehindEach}
-use Rattle.vplsnet.specs.Writing.{EndsExchange}
+use Rattle.vplsnet.specs.Writing.{EndsExchange, WritesText}
 use Rattle.vplsnet.proofs.AnswerLemmas.{none_answers, now_of, old_of, refused_answers, text_answers}
 use Rattle.vplsnet.proofs.PlanFileLemmas.{next_after, two_read, two_refused}
 use Rattle.vplsnet.proofs.ScriptFileLemmas.{no_lines, script_ended}
-use Rattle.vplsnet.proofs.WritingLemmas.{ends_front, ends_whole}
+use Rattle.vplsnet.proofs.WritingLemmas.{ends_text}
 use Rattle.packet_laws.proofs.MessageLemmas.{all_octets}
 
 -- ---- what is asked of a plan
@@ -53,28 +53,19 @@ switch_types plan types = record {
 agrees_each : (plan : Plan) (lines : List SwitchLine) → IsChecked plan → HasFieldTypes plan → AgreesBehindEach plan lines
 agrees_each plan lines checked types front behind split a b wire row is between = scripts_agree plan checked (switch_types plan types) front a b wire row is between
 
-pub exchange_whole : (plan : Plan) (lines : List SwitchLine) (text : List ℕ) (old now : Written) (outcome : Outcome) → IsChecked plan → HasFieldTypes plan → text
-    ≡ switchover_report plan lines → outcome ≡ Done → Writes old.taken now.taken text
+pub exchange_told : (plan : Plan) (lines : List SwitchLine) (text : List ℕ) (old now : Written) (outcome : Outcome) → IsChecked plan → HasFieldTypes plan → text
+    ≡ switchover_report plan lines → WritesText text Done old now outcome
     → EndsExchange plan lines old now None outcome
-exchange_whole plan lines text old now outcome checked types same ends taken =
+exchange_told plan lines text old now outcome checked types same written =
     inl (record {
       agrees = agrees_each plan lines checked types;
-      ends = ends_whole (switchover_report plan lines) None Done old now None outcome ends refl (subst (λ (l : List ℕ). Writes old.taken now.taken l) same taken);
-    })
-
-pub exchange_front : (plan : Plan) (lines : List SwitchLine) (text : List ℕ) (old now : Written) (outcome : Outcome) → IsChecked plan → HasFieldTypes plan → text
-    ≡ switchover_report plan lines → outcome ≡ WriteFault
-    → AppendsFront old.taken now.taken text → Rose old.faults now.faults → EndsExchange plan lines old now None outcome
-exchange_front plan lines text old now outcome checked types same ends taken cause =
-    inl (record {
-      agrees = agrees_each plan lines checked types;
-      ends = ends_front (switchover_report plan lines) None Done old now None outcome ends refl (subst (λ (l : List ℕ). AppendsFront old.taken now.taken l) same taken) cause;
+      ends = ends_text (switchover_report plan lines) None Done outcome old now None outcome (subst (λ (l : List ℕ). WritesText l Done old now outcome) same written) refl refl;
     })
 
 pub exchange_none : (plan : Plan) (lines : List SwitchLine) (old now : Written) (outcome : Outcome) → outcome ≡ NoMemory → now.taken ≡ old.taken → EndsExchange plan lines old now None outcome
 exchange_none plan lines old now outcome ends taken = inr (record { outcome_is = ends; no_run = refl; taken = taken })
 
-pub ruleset line_steps = (exchange_whole, exchange_front, exchange_none)
+pub ruleset line_steps = (exchange_told, exchange_none)
 
 -- ---- the script
 

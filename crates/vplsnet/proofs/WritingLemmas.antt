@@ -1,5 +1,5 @@
 -- How the writing of a text ends.
-use Rattle.std.proofs.Common.{◌≡◌, ◌<◌, ◌^◌, ℕ, List, [], Option, Some, None, length, inl, inr, refl, subst}
+use Rattle.std.proofs.Common.{◌≡◌, ◌∙◌, ◌<◌, ◌^◌, ℕ, List, [], Option, Some, None, length, inl, inr, refl, subst}
 use Rattle.std.specs.List.{All}
 use Rattle.net_base.specs.outside.Outside.{Rose}
 use Rattle.migration.specs.Law.{IsMigrated}
@@ -15,7 +15,8 @@ use Rattle.vplsnet.specs.Answers.{run_text}
 use Rattle.vplsnet.specs.Asked.{Asked}
 use Rattle.vplsnet.specs.RunOver.{outcome_by}
 use Rattle.vplsnet.specs.ScenarioRun.{IsScenarioRun}
-use Rattle.vplsnet.specs.Writing.{EndsMigration, EndsRun, EndsText}
+use Rattle.vplsnet.specs.StreamSteps.{Flushes}
+use Rattle.vplsnet.specs.Writing.{EndsMigration, EndsRun, EndsText, WritesText}
 use Rattle.vplsnet.proofs.ReportLemmas.{typed_trace}
 use Rattle.vplsnet.proofs.StreamLemmas.{cut_behind}
 
@@ -29,8 +30,6 @@ rose_flushed a b c text goes cut = (cut_behind a b c text goes cut).rose
 
 pub rose_put : (a b : Written) (text : List ℕ) → IsCut a b text → Rose a.faults b.faults
 rose_put a b text cut = cut.rose
-
-pub ruleset flush_steps = (whole_text, front_flushed, rose_flushed, cut_text, rose_put)
 
 -- ---- the end of a call
 
@@ -49,7 +48,36 @@ pub ends_none : (text : List ℕ) (left : Option NetLists) (made : Outcome) (old
     → EndsText text left made old now network outcome
 ends_none text left made old now network outcome is none taken = inr (inr (record { outcome_is = is; no_run = none; taken = taken }))
 
-pub ruleset text_steps = (ends_whole, ends_front, ends_none)
+-- a text that was put on an empty page, and then what waits was written
+pub text_flushed : (text : List ℕ) (made ready : Outcome) (old before put now : Written) (outcome : Outcome) → before.taken ≡ old.taken → before.faults ≡ old.faults → before.waiting ≡ []
+    → WritingGoesOn before put text → Flushes ready outcome put now → ready ≡ made
+    → WritesText text made old now outcome
+text_flushed text made ready old before put now outcome taken faults none goes (inl all) is =
+    inl (record {
+      outcome_is = all.is ∙ is;
+      network_is = refl;
+      taken = subst (λ (t : Option (List ℕ)). Writes t now.taken text) taken (whole_text before put now.taken text none goes all.taken);
+    })
+text_flushed text made ready old before put now outcome taken faults none goes (inr front) is =
+    inr (record {
+      outcome_is = front.is;
+      network_is = refl;
+      taken = subst (λ (t : Option (List ℕ)). AppendsFront t now.taken text) taken (front_flushed before put now text none goes front.cut);
+      cause = subst (λ (n : ℕ). Rose n now.faults) faults (rose_flushed before put now text goes front.cut);
+    })
+
+-- one of which a front alone was put
+pub text_cut : (text : List ℕ) (made : Outcome) (old now : Written) (outcome : Outcome) → outcome ≡ WriteFault → AppendsFront old.taken now.taken text → Rose old.faults now.faults
+    → WritesText text made old now outcome
+text_cut text made old now outcome is taken cause = inr (record { outcome_is = is; network_is = refl; taken = taken; cause = cause })
+
+pub ruleset put_steps = (text_cut, cut_text, rose_put)
+
+pub ends_text : (text : List ℕ) (left : Option NetLists) (made told : Outcome) (old now : Written) (network : Option NetLists) (outcome : Outcome) → WritesText text made old now told
+    → outcome ≡ told → network ≡ left → EndsText text left made old now network outcome
+ends_text text left made told old now network outcome (inl whole) is same = inl (record { outcome_is = is ∙ whole.outcome_is; network_is = same; taken = whole.taken })
+ends_text text left made told old now network outcome (inr front) is same =
+    inr (inl (record { outcome_is = is ∙ front.outcome_is; network_is = same; taken = front.taken; cause = front.cause }))
 
 -- that of a migration
 pub migrated_whole : (scenario : Scenario) (text lent : List ℕ) (old now : Written) (outcome : Outcome) → IsMigrated scenario text → lent ≡ text → outcome ≡ Done

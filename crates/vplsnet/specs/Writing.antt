@@ -50,6 +50,10 @@ abbrev pub EndsText : List ℕ → Option NetLists → Outcome → Written → W
 EndsText text left made old now network outcome =
     WritesWhole text left made old now network outcome ⊎ WritesFront text left old now network outcome ⊎ WritesNone old now network outcome
 
+-- a text is written of a call that ends so, or a front of it
+abbrev pub WritesText : List ℕ → Outcome → Written → Written → Outcome → Type 0
+WritesText text made old now outcome = WritesWhole text None made old now None outcome ⊎ WritesFront text None old now None outcome
+
 -- the run of a scenario, of which the command's text is written, and what the types of its entries say of them
 pub record TellsRunOf (scenario : Scenario) (captures : List (List (List ℕ))) (asked : Asked) (old now : Written) (network : Option NetLists) (outcome : Outcome) : Type 0 where
   pub left : NetLists

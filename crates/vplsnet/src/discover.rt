@@ -5,7 +5,7 @@ ghost use Rattle.flight_laws.specs.Ends.{HasTypes};
 ghost use Rattle.net_base.specs.plan.Accepted.{IsChecked};
 ghost use Rattle.text_lines.specs.Written.{PutsOn, lines_written};
 ghost use Rattle.vplsnet.specs.{Answers.{SaysOutcome}, Around.{Has, around, gained}, Asked.{Discover}, Discover.{discovery_text}};
-ghost use Rattle.vplsnet.specs.{Finish.{exit_status}, Reads.{GainsReads, IsReadOfNext}, ScriptFile.{EndsScript}, Writing.{EndsDiscovery}};
+ghost use Rattle.vplsnet.specs.{Finish.{exit_status}, Reads.{GainsReads, IsReadOfNext}, RunOver.{outcome_by}, ScriptFile.{EndsScript}, Writing.{EndsDiscovery, WritesText}};
 
 use crate::finish::Finish;
 use crate::outcome::Outcome;
@@ -13,6 +13,7 @@ use crate::plan_file::plan_and_file;
 use crate::replay::ending_of;
 use crate::scenario_run::outcome_of;
 use crate::script_file::{SCRIPT_LIMIT, refused};
+use crate::stream_text::flush_page;
 use discovery_net::{DiscoveryRun, run_script};
 use discovery_script::{ScriptLine, read_script};
 use discovery_text::{NotedTrace, put_discovery};
@@ -56,7 +57,7 @@ fn discover<K: Sink>(alloc: Global, plan: &Plan, script: &[u8], sink: &mut K) ->
 }
 
 // Does the lines of a script over the network of a plan, and writes the report.
-#[tactic(auto, using(crate::proofs::DiscoverLemmas::line_steps, crate::proofs::WritingLemmas::flush_steps, crate::proofs::WritingLemmas::text_steps))]
+#[tactic(auto, using(crate::proofs::DiscoverLemmas::line_steps))]
 fn finish_lines<K: Sink>(
     alloc: Global,
     plan: &Plan,
@@ -73,17 +74,24 @@ fn finish_lines<K: Sink>(
         Ok(page) => page,
         Err(NoMemory) => return Finish::without_run(Outcome::NoMemory),
     };
-    let run = match run_script(alloc, plan, lines) {
-        Ok(run) => run,
-        Err(NoMemory) => return Finish::without_run(Outcome::NoMemory),
-    };
-    match put_lines(&mut page, sink, &run) {
-        Ok(()) => {}
-        Err(_) => return Finish::after_run(Outcome::WriteFault, Some(run.net.into_network())),
+    match run_script(alloc, plan, lines) {
+        Ok(run) => {
+            let outcome = write_lines(&mut page, sink, &run);
+            Finish::after_run(outcome, Some(run.net.into_network()))
+        }
+        Err(NoMemory) => Finish::without_run(Outcome::NoMemory),
     }
-    match page.flush(sink) {
-        Ok(()) => Finish::after_run(outcome_of(run.stop), Some(run.net.into_network())),
-        Err(_) => Finish::after_run(Outcome::WriteFault, Some(run.net.into_network())),
+}
+
+// Writes the report of a script.
+#[tactic(auto, using(crate::proofs::WritingLemmas::put_steps))]
+fn write_lines<K: Sink>(page: &mut Page, sink: &mut K, run: &DiscoveryRun) -> Outcome
+    requires { page.old ≡ [] }
+    ensures { WritesText (discovery_text run.now.net.network run.now.net.notes run.now.stop) (outcome_by run.now.stop) (lines_written (K.taken sink.old) (K.faults sink.old) []) (lines_written (K.taken sink.new) (K.faults sink.new) []) result }
+{
+    match put_lines(page, sink, run) {
+        Ok(()) => flush_page(page, sink, outcome_of(run.stop)),
+        Err(_) => Outcome::WriteFault,
     }
 }
 

@@ -4,15 +4,16 @@ ghost use Rattle.net_base.specs.{plan.Accepted.{IsChecked}, plan.Planned.{IsFram
 ghost use Rattle.command_text.specs.Planned.{IsPlanned};
 ghost use Rattle.flight_laws.specs.Ends.{HasTypes};
 ghost use Rattle.text_lines.specs.Written.{lines_written};
-ghost use Rattle.vplsnet.specs.{Answers.{IsRefused, SaysOutcome}, Around.{Has, around, gained}, Asked.{run_asked_by}};
-ghost use Rattle.vplsnet.specs.{Finish.{exit_status}, Inputs.{ComesTo, Run, Works}, Reads.{GainsReads, IsReadOfNext}, Writing.{EndsRun}};
+ghost use Rattle.vplsnet.specs.{Answers.{IsRefused, SaysOutcome, run_text}, Around.{Has, around, gained}, Asked.{run_asked_by}};
+ghost use Rattle.vplsnet.specs.{Finish.{exit_status}, Inputs.{ComesTo, Run, Works}, Reads.{GainsReads, IsReadOfNext}, RunOver.{outcome_by}, Writing.{EndsRun, WritesText}};
 
 use crate::finish::Finish;
 use crate::outcome::Outcome;
 use crate::run_request::RunRequest;
 use crate::run_text::put_run;
 use crate::scenario_file::scenario_of;
-use crate::scenario_run::{outcome_of, run_scenario};
+use crate::scenario_run::{ScenarioRun, outcome_of, run_scenario};
+use crate::stream_text::flush_page;
 use crate::types::see_entries;
 use crate::work::Work;
 use net_base::{List, NoMemory, Shelf, Sink};
@@ -64,8 +65,27 @@ fn work_of<F: Shelf>(alloc: Global, request: RunRequest<'_>, shelf: &mut F) -> R
     }
 }
 
+// The page on which a text is put, and the room in which addresses are sorted.
+#[derive(Drop)]
+struct Room {
+    page: Page,
+    sorting: Sorting,
+}
+
+impl Room {
+    // Both, with nothing in them, and all the memory that they take.
+    fn new(alloc: Global) -> Result<Room, NoMemory>
+        ensures { IfOk result (λ room. room.page ≡ []) }
+    {
+        Ok(Room {
+            page: Page::new(alloc)?,
+            sorting: Sorting::new(alloc)?,
+        })
+    }
+}
+
 // Runs a scenario, and writes what the request asks of the run.
-#[tactic(auto, using(crate::proofs::RunLemmas::is_scenario_run, crate::proofs::RunLemmas::checked_as, crate::proofs::WritingLemmas::flush_steps, crate::proofs::WritingLemmas::run_steps, crate::proofs::WritingLemmas::text_steps))]
+#[tactic(auto, using(crate::proofs::RunLemmas::is_scenario_run, crate::proofs::RunLemmas::checked_as, crate::proofs::WritingLemmas::run_steps))]
 fn finish_work<K: Sink>(alloc: Global, request: RunRequest<'_>, work: Work, sink: &mut K) -> Finish
     requires checked { IsChecked work.scenario.plan }
     requires typed { HasTypes work.scenario.plan }
@@ -74,25 +94,34 @@ fn finish_work<K: Sink>(alloc: Global, request: RunRequest<'_>, work: Work, sink
     ensures status { result.status ≡ exit_status result.outcome }
     ensures ends { EndsRun work.scenario work.captures (run_asked_by request.entry) (lines_written (K.taken sink.old) (K.faults sink.old) []) (lines_written (K.taken sink.new) (K.faults sink.new) []) result.network result.outcome }
 {
-    let mut page = match Page::new(alloc) {
-        Ok(page) => page,
+    let mut room = match Room::new(alloc) {
+        Ok(room) => room,
         Err(NoMemory) => return Finish::without_run(Outcome::NoMemory),
     };
-    let mut sorting = match Sorting::new(alloc) {
-        Ok(sorting) => sorting,
-        Err(NoMemory) => return Finish::without_run(Outcome::NoMemory),
-    };
-    let run = match run_scenario(alloc, work) {
-        Ok(run) => run,
-        Err(NoMemory) => return Finish::without_run(Outcome::NoMemory),
-    };
-    see_entries(&run.network);
-    match put_run(&mut page, sink, &mut sorting, request, &run) {
-        Ok(()) => {}
-        Err(_) => return Finish::after_run(Outcome::WriteFault, Some(run.network)),
+    match run_scenario(alloc, work) {
+        Ok(run) => {
+            see_entries(&run.network);
+            let outcome = write_run(&mut room, sink, request, &run);
+            Finish::after_run(outcome, Some(run.network))
+        }
+        Err(NoMemory) => Finish::without_run(Outcome::NoMemory),
     }
-    match page.flush(sink) {
-        Ok(()) => Finish::after_run(outcome_of(run.stop), Some(run.network)),
-        Err(_) => Finish::after_run(Outcome::WriteFault, Some(run.network)),
+}
+
+// Writes what the request asks of a run.
+#[tactic(auto, using(crate::proofs::WritingLemmas::put_steps))]
+fn write_run<K: Sink>(
+    room: &mut Room,
+    sink: &mut K,
+    request: RunRequest<'_>,
+    run: &ScenarioRun,
+) -> Outcome
+    requires checked { IsChecked run.now.network.plan }
+    requires empty { room.old.page ≡ [] }
+    ensures { WritesText (run_text (run_asked_by request.entry) run.now.network run.now.stop) (outcome_by run.now.stop) (lines_written (K.taken sink.old) (K.faults sink.old) []) (lines_written (K.taken sink.new) (K.faults sink.new) []) result }
+{
+    match put_run(&mut room.page, sink, &mut room.sorting, request, run) {
+        Ok(()) => flush_page(&mut room.page, sink, outcome_of(run.stop)),
+        Err(_) => Outcome::WriteFault,
     }
 }

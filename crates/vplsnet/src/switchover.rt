@@ -4,16 +4,19 @@ ghost use Rattle.flight_laws.specs.Ends.{HasTypes};
 ghost use Rattle.net_base.specs.plan.Accepted.{IsChecked};
 ghost use Rattle.switchover_model.specs.Planned.{IsLineOf};
 ghost use Rattle.switchover_script.specs.Lines.{switch_lines_in};
+ghost use Rattle.switchover_text.specs.Text.{switchover_text};
 ghost use Rattle.text_lines.specs.Written.{lines_written};
 ghost use Rattle.vplsnet.specs.{Answers.{SaysOutcome}, Around.{Has, around, gained}, Asked.{Switchover}, Finish.{exit_status}};
-ghost use Rattle.vplsnet.specs.{Reads.{GainsReads, IsReadOfNext}, ScriptFile.{EndsScript}, Writing.{EndsExchange}};
+ghost use Rattle.vplsnet.specs.{Reads.{GainsReads, IsReadOfNext}, ScriptFile.{EndsScript}, Writing.{EndsExchange, WritesText}};
 
 use crate::finish::Finish;
 use crate::outcome::Outcome;
 use crate::plan_file::plan_and_file;
 use crate::script_file::{SCRIPT_LIMIT, refused};
-use net_base::{NoMemory, Plan, Shelf, Sink};
+use crate::stream_text::flush_page;
+use net_base::{List, NoMemory, Plan, Shelf, Sink};
 use std::alloc::Global;
+use switchover_model::SwitchEntry;
 use switchover_net::play;
 use switchover_script::{SwitchLine, read_script};
 use switchover_text::put_switchover;
@@ -57,7 +60,7 @@ fn exchange<K: Sink>(alloc: Global, plan: &Plan, script: &[u8], sink: &mut K) ->
 }
 
 // Has the edges of a plan do lines, and writes what comes of each.
-#[tactic(auto, using(crate::proofs::SwitchoverLemmas::line_steps, crate::proofs::SwitchoverLemmas::switch_types, crate::proofs::WritingLemmas::flush_steps))]
+#[tactic(auto, using(crate::proofs::SwitchoverLemmas::line_steps, crate::proofs::SwitchoverLemmas::switch_types))]
 fn write_exchange<K: Sink>(
     alloc: Global,
     plan: &Plan,
@@ -73,16 +76,26 @@ fn write_exchange<K: Sink>(
         Ok(page) => page,
         Err(NoMemory) => return Outcome::NoMemory,
     };
-    let told = match play(alloc, plan, lines) {
-        Ok(told) => told,
-        Err(NoMemory) => return Outcome::NoMemory,
-    };
-    match put_switchover(&mut page, sink, plan, lines, told.as_slice()) {
-        Ok(()) => {}
-        Err(_) => return Outcome::WriteFault,
+    match play(alloc, plan, lines) {
+        Ok(told) => write_told(&mut page, sink, plan, lines, told.as_slice()),
+        Err(NoMemory) => Outcome::NoMemory,
     }
-    match page.flush(sink) {
-        Ok(()) => Outcome::Done,
+}
+
+// Writes what came of each line.
+#[tactic(auto, using(crate::proofs::WritingLemmas::put_steps))]
+fn write_told<K: Sink>(
+    page: &mut Page,
+    sink: &mut K,
+    plan: &Plan,
+    lines: &[SwitchLine],
+    told: &[List<SwitchEntry>],
+) -> Outcome
+    requires { page.old ≡ [] }
+    ensures { WritesText (switchover_text plan.now lines.now told.now) Outcome.Done (lines_written (K.taken sink.old) (K.faults sink.old) []) (lines_written (K.taken sink.new) (K.faults sink.new) []) result }
+{
+    match put_switchover(page, sink, plan, lines, told) {
+        Ok(()) => flush_page(page, sink, Outcome::Done),
         Err(_) => Outcome::WriteFault,
     }
 }

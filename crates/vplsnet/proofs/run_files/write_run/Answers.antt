@@ -1,0 +1,7 @@
+-- The text of the run was put, and then what waits was written.
+use Rattle.std.proofs.Common.{refl}
+use Rattle.vplsnet.proofs.WritingLemmas.{text_flushed}
+use Rattle.vplsnet.proofs.run_files.write_run.Goals as goal
+
+pub returns-in-Ok : goal.returns-in-Ok
+returns-in-Ok g c = text_flushed _ _ _ _ _ _ _ _ refl refl c.requires.empty c.in-Ok.ensures c.flush_page.ensures c.outcome_of.ensures
