@@ -1,7 +1,7 @@
 //! Whole documents.
-ghost use Rattle.std.specs.{Prelude.{◌≡◌, Some, false, map, string_bytes, IfOk, OnOk}, List.{All}};
-ghost use Rattle.toml.specs.{Parse.{parse_document}, Text.{IsDocumentText}, View.{table_view}, Data.{table as table_data}};
-ghost use Rattle.migration.specs.{Migrated.{plan_table, migrated}, Tables.{put_some}};
+ghost use Rattle.std.specs.{Prelude.{◌≡◌, Some, false, codes, map, string_bytes, IfOk, OnOk}, List.{All}};
+ghost use Rattle.toml.specs.{Parse.{parse_document}, Text.{IsDocumentText}, View.{table_view}, Data.{no_members, table as table_data}};
+ghost use Rattle.migration.specs.{Groups.{used_groups}, Migrated.{plan_table, migrated}, Rows.{group_table}, Tables.{put_some}};
 ghost use Rattle.migration.specs.Sayable.{HasTexts, IsSayable, IsSayableScenario};
 ghost use Rattle.plan_names.specs.Planned.{HasNames};
 
@@ -29,33 +29,56 @@ fn put_rows<T: PlanRow>(
     put_some(alloc, table, key, rows)
 }
 
-// The rows of a plan.
-#[tactic(auto, unfolding(crate::specs::Migrated::plan_table))]
-fn plan_keys(alloc: Global, plan: &Plan) -> Result<Table, NoMemory>
-    requires { All HasTexts plan.now.wires }
-    ensures { IfOk result (λ t. table_view t ≡ plan_table plan.now) }
+// Puts the groups that the wires of a plan use, where there are any.
+fn put_groups(alloc: Global, table: &mut Table, plan: &Plan) -> Result<(), NoMemory>
+    ensures { OnOk result (table_view table.new ≡ put_some (codes "group") (map (λ group. table_data (group_table group)) (used_groups plan.now.wires)) (table_view table.old)) }
 {
-    let mut table = no_keys(alloc);
-    put_rows(alloc, &mut table, "wire", plan, plan.wires.as_slice())?;
-    put_rows(alloc, &mut table, "circuit", plan, plan.circuits.as_slice())?;
     let groups = groups_of(alloc, plan.wires.as_slice())?;
-    put_rows(alloc, &mut table, "group", plan, groups.as_slice())?;
-    put_rows(alloc, &mut table, "service", plan, plan.services.as_slice())?;
-    put_rows(alloc, &mut table, "edge", plan, plan.edges.as_slice())?;
-    Ok(table)
+    put_rows(alloc, table, "group", plan, groups.as_slice())
+}
+
+// Puts the rows of a plan into a table without keys.
+#[tactic(auto, unfolding(crate::specs::Migrated::plan_table))]
+fn put_plan(alloc: Global, table: &mut Table, plan: &Plan) -> Result<(), NoMemory>
+    requires texts { All HasTexts plan.now.wires }
+    requires none { table_view table.old ≡ no_members }
+    ensures { OnOk result (table_view table.new ≡ plan_table plan.now) }
+{
+    put_rows(alloc, table, "wire", plan, plan.wires.as_slice())?;
+    put_rows(alloc, table, "circuit", plan, plan.circuits.as_slice())?;
+    put_groups(alloc, table, plan)?;
+    put_rows(alloc, table, "service", plan, plan.services.as_slice())?;
+    put_rows(alloc, table, "edge", plan, plan.edges.as_slice())
+}
+
+// Puts the document of version 2 that a plan and its commands are into a table without keys.
+#[tactic(auto, unfolding(crate::specs::Migrated::top_table))]
+fn put_document(
+    alloc: Global,
+    table: &mut Table,
+    plan: &Plan,
+    commands: &[Command],
+) -> Result<(), NoMemory>
+    requires sayable { IsSayableScenario plan.now commands.now }
+    requires none { table_view table.old ≡ no_members }
+    ensures { OnOk result (table_view table.new ≡ migrated plan.now commands.now) }
+{
+    put_plan(alloc, table, plan)?;
+    let events = command_lines(alloc, plan, commands)?;
+    put_array(alloc, table, "events", events)?;
+    put_number(alloc, table, "version", 2)
 }
 
 // The document of version 2 that a plan and its commands are.
-#[tactic(auto, unfolding(crate::specs::Migrated::top_table))]
 fn migrated_table(alloc: Global, plan: &Plan, commands: &[Command]) -> Result<Table, NoMemory>
     requires { IsSayableScenario plan.now commands.now }
     ensures { IfOk result (λ t. table_view t ≡ migrated plan.now commands.now) }
 {
-    let mut table = plan_keys(alloc, plan)?;
-    let events = command_lines(alloc, plan, commands)?;
-    put_array(alloc, &mut table, "events", events)?;
-    put_number(alloc, &mut table, "version", 2)?;
-    Ok(table)
+    let mut table = no_keys(alloc);
+    match put_document(alloc, &mut table, plan, commands) {
+        Ok(()) => Ok(table),
+        Err(fault) => Err(fault),
+    }
 }
 
 /// A text of version 2 of a plan and its commands. The table has every key but an absent tag, VLAN ID or group, and but an array of

@@ -1,6 +1,6 @@
 //! Offers as tables.
 ghost use Rattle.std.specs.{Prelude.{◌≡◌, ◌++◌, codes, string_bytes, IfOk, OnOk}, Str.{IsUtf8}};
-ghost use Rattle.toml.specs.View.{table_view};
+ghost use Rattle.toml.specs.{Data.{no_members}, View.{table_view}};
 ghost use Rattle.migration.specs.{Groups.{group_name}, Rows.{offer_table, put_group}};
 
 use crate::keys::{no_keys, put_boolean, put_number, put_text, put_told};
@@ -39,26 +39,32 @@ pub fn wide(number: Option<u16>) -> Option<u32>
     }
 }
 
-/// The table of an offer.
+// Puts what an offer says into a table without keys.
 #[tactic(auto, unfolding(crate::specs::Rows::offer_table))]
+fn put_offer(alloc: Global, table: &mut Table, offer: &Offer) -> Result<(), NoMemory>
+    requires text { IsUtf8 offer.now.description }
+    requires none { table_view table.old ≡ no_members }
+    ensures { OnOk result (table_view table.new ≡ offer_table offer.now) }
+{
+    let description = str::from_utf8(offer.description.as_slice()).unwrap();
+    put_text(alloc, table, "description", description)?;
+    put_group_of(alloc, table, offer.group)?;
+    put_boolean(alloc, table, "status", offer.status)?;
+    put_number(alloc, table, "vccv", u32::from(offer.vccv.unwrap_or(0)))?;
+    put_told(alloc, table, "vlan", wide(offer.vlan))?;
+    put_number(alloc, table, "mtu", u32::from(offer.mtu.unwrap_or(0)))?;
+    put_boolean(alloc, table, "control_word", offer.cword)?;
+    put_text(alloc, table, "mode", mode_text(offer.tagged))
+}
+
+/// The table of an offer.
 pub fn offer_keys(alloc: Global, offer: &Offer) -> Result<Table, NoMemory>
     requires { IsUtf8 offer.now.description }
     ensures { IfOk result (λ t. table_view t ≡ offer_table offer.now) }
 {
-    let description = str::from_utf8(offer.description.as_slice()).unwrap();
     let mut table = no_keys(alloc);
-    put_text(alloc, &mut table, "description", description)?;
-    put_group_of(alloc, &mut table, offer.group)?;
-    put_boolean(alloc, &mut table, "status", offer.status)?;
-    put_number(
-        alloc,
-        &mut table,
-        "vccv",
-        u32::from(offer.vccv.unwrap_or(0)),
-    )?;
-    put_told(alloc, &mut table, "vlan", wide(offer.vlan))?;
-    put_number(alloc, &mut table, "mtu", u32::from(offer.mtu.unwrap_or(0)))?;
-    put_boolean(alloc, &mut table, "control_word", offer.cword)?;
-    put_text(alloc, &mut table, "mode", mode_text(offer.tagged))?;
-    Ok(table)
+    match put_offer(alloc, &mut table, offer) {
+        Ok(()) => Ok(table),
+        Err(fault) => Err(fault),
+    }
 }

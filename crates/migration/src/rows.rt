@@ -1,6 +1,6 @@
 //! Rows as tables.
-ghost use Rattle.std.specs.{Prelude.{◌≡◌, map, IfOk}, List.{All}};
-ghost use Rattle.toml.specs.{Data.{string, table}, View.{view, table_view}};
+ghost use Rattle.std.specs.{Prelude.{◌≡◌, ◌++◌, [], ◌∷◌, map, IfOk, OnOk}, List.{All}};
+ghost use Rattle.toml.specs.{Data.{no_members, string, table}, View.{view, table_view}};
 ghost use Rattle.line_shapes.specs.Words.{edge_name};
 ghost use Rattle.migration.specs.{Rows.{ends_table}, Sayable.{HasTexts}};
 
@@ -24,10 +24,11 @@ pub trait PlanRow: Sized {
     /// What a row has to be, that a table can say it.
     ghost is_sayable: { Self → Type 0 };
 
-    /// The table of a row of a plan.
-    fn keys(&self, alloc: Global, plan: &Plan) -> Result<Table, NoMemory>
-        requires { is_sayable self.now }
-        ensures { IfOk result (λ t. table_view t ≡ table_of plan.now self.now) };
+    /// Puts what a row of a plan says into a table without keys.
+    fn put(&self, alloc: Global, plan: &Plan, table: &mut Table) -> Result<(), NoMemory>
+        requires sayable { is_sayable self.now }
+        requires none { table_view table.old ≡ no_members }
+        ensures { OnOk result (table_view table.new ≡ table_of plan.now self.now) };
 }
 
 impl PlanRow for EdgePlan {
@@ -38,15 +39,13 @@ impl PlanRow for EdgePlan {
     ghost is_sayable = { λ edge. Unit {0} };
 
     #[tactic(auto, unfolding(crate::specs::Rows::edge_table))]
-    fn keys(&self, alloc: Global, _plan: &Plan) -> Result<Table, NoMemory> {
-        let mut table = no_keys(alloc);
-        put_number(alloc, &mut table, "max_pdu", u32::from(self.max_pdu))?;
-        put_number(alloc, &mut table, "keepalive", u32::from(self.keepalive))?;
-        put_number(alloc, &mut table, "first_label", self.first_label)?;
+    fn put(&self, alloc: Global, _plan: &Plan, table: &mut Table) -> Result<(), NoMemory> {
+        put_number(alloc, table, "max_pdu", u32::from(self.max_pdu))?;
+        put_number(alloc, table, "keepalive", u32::from(self.keepalive))?;
+        put_number(alloc, table, "first_label", self.first_label)?;
         let address = Ipv4Addr::from(self.address.0).to_string(alloc)?;
-        put_text(alloc, &mut table, "address", address.as_str())?;
-        put_text(alloc, &mut table, "name", name_text(&self.name))?;
-        Ok(table)
+        put_text(alloc, table, "address", address.as_str())?;
+        put_text(alloc, table, "name", name_text(&self.name))
     }
 }
 
@@ -58,12 +57,10 @@ impl PlanRow for ServicePlan {
     ghost is_sayable = { λ service. Unit {0} };
 
     #[tactic(auto, unfolding(crate::specs::Rows::service_table))]
-    fn keys(&self, alloc: Global, _plan: &Plan) -> Result<Table, NoMemory> {
-        let mut table = no_keys(alloc);
-        put_number(alloc, &mut table, "age", self.age)?;
-        put_number(alloc, &mut table, "mtu", u32::from(self.mtu))?;
-        put_text(alloc, &mut table, "name", name_text(&self.name))?;
-        Ok(table)
+    fn put(&self, alloc: Global, _plan: &Plan, table: &mut Table) -> Result<(), NoMemory> {
+        put_number(alloc, table, "age", self.age)?;
+        put_number(alloc, table, "mtu", u32::from(self.mtu))?;
+        put_text(alloc, table, "name", name_text(&self.name))
     }
 }
 
@@ -76,12 +73,10 @@ impl PlanRow for u32 {
     ghost is_sayable = { λ group. Unit {0} };
 
     #[tactic(auto, unfolding(crate::specs::Rows::group_table))]
-    fn keys(&self, alloc: Global, _plan: &Plan) -> Result<Table, NoMemory> {
-        let mut table = no_keys(alloc);
-        put_number(alloc, &mut table, "number", *self)?;
+    fn put(&self, alloc: Global, _plan: &Plan, table: &mut Table) -> Result<(), NoMemory> {
+        put_number(alloc, table, "number", *self)?;
         let name = group_text(alloc, *self)?;
-        put_text(alloc, &mut table, "name", name.as_str())?;
-        Ok(table)
+        put_text(alloc, table, "name", name.as_str())
     }
 }
 
@@ -93,18 +88,11 @@ impl PlanRow for CircuitPlan {
     ghost is_sayable = { λ circuit. Unit {0} };
 
     #[tactic(auto, unfolding(crate::specs::Rows::circuit_table))]
-    fn keys(&self, alloc: Global, plan: &Plan) -> Result<Table, NoMemory> {
-        let mut table = no_keys(alloc);
-        put_told(alloc, &mut table, "tag", wide(self.tag))?;
-        put_text(
-            alloc,
-            &mut table,
-            "service",
-            service_text(plan, self.service),
-        )?;
-        put_text(alloc, &mut table, "edge", edge_text(plan, self.edge))?;
-        put_text(alloc, &mut table, "name", name_text(&self.name))?;
-        Ok(table)
+    fn put(&self, alloc: Global, plan: &Plan, table: &mut Table) -> Result<(), NoMemory> {
+        put_told(alloc, table, "tag", wide(self.tag))?;
+        put_text(alloc, table, "service", service_text(plan, self.service))?;
+        put_text(alloc, table, "edge", edge_text(plan, self.edge))?;
+        put_text(alloc, table, "name", name_text(&self.name))
     }
 }
 
@@ -119,20 +107,19 @@ fn path_items(alloc: Global, plan: &Plan, path: &[EdgeId]) -> Result<Vec<Value>,
     Ok(items)
 }
 
-// What a table of a wire says of its ends and its numbers.
+// Puts what a table of a wire says of its ends and its numbers.
 #[tactic(auto, unfolding(crate::specs::Rows::ends_table))]
-fn ends_keys(alloc: Global, wire: &WirePlan) -> Result<Table, NoMemory>
-    requires { HasTexts wire.now }
-    ensures { IfOk result (λ t. table_view t ≡ ends_table wire.now) }
+fn put_ends(alloc: Global, table: &mut Table, wire: &WirePlan) -> Result<(), NoMemory>
+    requires texts { HasTexts wire.now }
+    requires none { table_view table.old ≡ no_members }
+    ensures { OnOk result (table_view table.new ≡ ends_table wire.now) }
 {
-    let mut table = no_keys(alloc);
     let far = offer_keys(alloc, &wire.far)?;
-    put_table(alloc, &mut table, "far", far)?;
+    put_table(alloc, table, "far", far)?;
     let near = offer_keys(alloc, &wire.near)?;
-    put_table(alloc, &mut table, "near", near)?;
-    put_number(alloc, &mut table, "priority", u32::from(wire.priority))?;
-    put_number(alloc, &mut table, "pw_id", wire.pw_id)?;
-    Ok(table)
+    put_table(alloc, table, "near", near)?;
+    put_number(alloc, table, "priority", u32::from(wire.priority))?;
+    put_number(alloc, table, "pw_id", wire.pw_id)
 }
 
 impl PlanRow for WirePlan {
@@ -144,19 +131,30 @@ impl PlanRow for WirePlan {
     ghost is_sayable = { HasTexts };
 
     #[tactic(auto, unfolding(crate::specs::Rows::wire_table))]
-    fn keys(&self, alloc: Global, plan: &Plan) -> Result<Table, NoMemory> {
-        let mut table = ends_keys(alloc, self)?;
+    fn put(&self, alloc: Global, plan: &Plan, table: &mut Table) -> Result<(), NoMemory> {
+        put_ends(alloc, table, self)?;
         let path = path_items(alloc, plan, self.path.as_slice())?;
-        put_array(alloc, &mut table, "path", path)?;
-        put_text(alloc, &mut table, "class", class_text(self.class))?;
-        put_text(
-            alloc,
-            &mut table,
-            "service",
-            service_text(plan, self.service),
-        )?;
-        put_text(alloc, &mut table, "name", name_text(&self.name))?;
-        Ok(table)
+        put_array(alloc, table, "path", path)?;
+        put_text(alloc, table, "class", class_text(self.class))?;
+        put_text(alloc, table, "service", service_text(plan, self.service))?;
+        put_text(alloc, table, "name", name_text(&self.name))
+    }
+}
+
+// Adds the table of a row of a plan.
+fn push_row<T: PlanRow>(
+    alloc: Global,
+    plan: &Plan,
+    item: &T,
+    rows: &mut Vec<Value>,
+) -> Result<(), NoMemory>
+    requires { T.is_sayable item.now }
+    ensures { OnOk result (map view rows.new.items ≡ map view rows.old.items ++ table (T.table_of plan.now item.now) ∷ []) }
+{
+    let mut row = no_keys(alloc);
+    match item.put(alloc, plan, &mut row) {
+        Ok(()) => push_table(rows, row),
+        Err(fault) => Err(fault),
     }
 }
 
@@ -167,8 +165,7 @@ pub fn rows<T: PlanRow>(alloc: Global, plan: &Plan, items: &[T]) -> Result<Vec<V
 {
     let mut rows = Vec::with_capacity(alloc, items.len())?;
     for item in items {
-        let row = item.keys(alloc, plan)?;
-        push_table(&mut rows, row)?;
+        push_row(alloc, plan, item, &mut rows)?;
     }
     Ok(rows)
 }
