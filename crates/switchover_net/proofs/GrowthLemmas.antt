@@ -226,5 +226,3 @@ module _ (plan : Plan) (me : ℕ) (peer : EdgeId) (old new : SwitchLists) (calls
 
   pub still_used : (was : List Bool) → new.row.plan ≡ plan → was ≡ used plan me (seen_row old.row me) → was ≡ used new.row.plan me (seen_row new.row me)
   still_used was planned is = is ∙ (sym same_used ∙ ap (λ (p : Plan). used p me (seen_row new.row me)) (sym planned))
-
-pub ruleset octet_steps = (was_heard, was_silent, still_used)

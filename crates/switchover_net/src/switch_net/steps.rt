@@ -32,7 +32,6 @@ pub(crate) struct Setting {
 
 impl SwitchNet {
     // An edge is connected with another one.
-    #[tactic(auto, using(crate::proofs::NetLemmas::connected))]
     pub(crate) fn connect_one(
         &mut self,
         me: EdgeId,
@@ -54,7 +53,6 @@ impl SwitchNet {
     }
 
     // An edge calls a wire something else, whose other end is the peer.
-    #[tactic(auto, using(crate::proofs::NetLemmas::was_set))]
     pub(crate) fn set(
         &mut self,
         to: Setting,
@@ -104,7 +102,6 @@ impl SwitchNet {
 
     // One octet comes, where some is on its way. An octet that completes no PDU changes nothing that is told. Which wires the edge uses is
     // kept from one octet to the next.
-    #[tactic(auto, using(crate::proofs::NetLemmas::none_waits, crate::proofs::GrowthLemmas::octet_steps))]
     pub(crate) fn deliver_one(
         &mut self,
         way: Way,

@@ -1,5 +1,0 @@
-use Rattle.switchover_net.proofs.PlayLemmas.{IsPlayed}
-use Rattle.switchover_net.proofs.script.play.Given as goal
-
-abbrev pub invariant-loop-place : goal.invariant-loop-place
-invariant-loop-place l = IsPlayed l.plan l.lines l.place l.network l.told
