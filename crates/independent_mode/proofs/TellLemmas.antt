@@ -1,5 +1,5 @@
 -- An edge tells what it calls its wires.
-use Rattle.std.proofs.Common.{◌≡◌, ◌<◌, ◌≤◌, ◌+◌, ◌-◌, ◌==◌, ◌++◌, ◌∙◌, ℕ, zero, suc, Bool, true, false, List, [], ◌∷◌, Option, Some, None, length, slice_get, option_map, if◌then◌else◌, refl, ap, sym, subst, arith}
+use Rattle.std.proofs.Common.{◌≡◌, ◌<◌, ◌≤◌, ◌+◌, ◌-◌, ◌==◌, ◌++◌, ◌∙◌, ℕ, zero, suc, Bool, true, false, List, [], ◌∷◌, Option, Some, None, Err, length, slice_get, option_map, if◌then◌else◌, refl, ap, sym, subst, arith}
 use Rattle.std.proofs.lemmas.Bool.Decides.{nat_tests}
 use Rattle.net_values.proofs.RowLemmas.{last_of}
 use Rattle.net_base.specs.declared.outside.link_call.LinkCall.{LinkCall}
@@ -8,13 +8,14 @@ use Rattle.net_base.specs.declared.plan.places.EdgeId.{EdgeId}
 use Rattle.net_base.specs.declared.plan.wire_plan.WirePlan.{WirePlan}
 use Rattle.net_base.specs.outside.Link.{call_of}
 use Rattle.pw_messages.specs.LinkAnswers.{Agrees, Answers}
+use Rattle.independent_model.specs.declared.indep_stop.IndepStop.{IndepStop}
 use Rattle.independent_model.specs.declared.indep_stop.IndepStop.TheVariants as stop
 use Rattle.independent_model.specs.State.{ConnectionState, Stopped, Receiver, IndepState, receiver_set, id_next, spoken_once, with_connection, with_receiver}
 use Rattle.ldp_stream.specs.State.{StreamState}
 use Rattle.independent_mode.specs.Lists.{IndepLists, KeepsIndependent}
 use Rattle.independent_mode.specs.Receiver.{HasReceiver, HasNoReceiver, IsTakenOut, receiver_in, receiver_of}
 use Rattle.independent_model.specs.Tell.{octets_on, independent_puts, tells, independent_tells_by, tells_from, tells_in, tells_place}
-use Rattle.independent_model.specs.Work.{Goes, CallsGoOn, IndepOutcome, Stops, and_works}
+use Rattle.independent_model.specs.Work.{Comes, Goes, CallsGoOn, IndepOutcome, Stops, and_works}
 
 -- ---- calls that go on
 
@@ -160,6 +161,13 @@ module _ (plan : Plan) (told : Answers) (me : ℕ) (peer : EdgeId) (wire : ℕ) 
 pub goes_then : (o whole : IndepOutcome) (edge : IndepState) (calls : List LinkCall) (f : IndepState → List LinkCall → IndepOutcome) → whole ≡ and_works o f → o ≡ Goes edge calls
     → whole ≡ f edge calls
 goes_then o whole edge calls f is goes = is ∙ ap (λ (p : IndepOutcome). and_works p f) goes
+
+-- it stops where what is done first does
+pub stops_then : (T U : Type 0) (why : IndepStop) (edge : IndepState) (calls : List LinkCall) (o whole : IndepOutcome) (f : IndepState → List LinkCall → IndepOutcome) → whole ≡ and_works o f
+    → Comes {T = T} (Err why) edge calls o → Comes {T = U} (Err why) edge calls whole
+stops_then T U stop.Link edge calls o whole f is comes = is ∙ ap (λ (p : IndepOutcome). and_works p f) comes
+stops_then T U (stop.Refused fault) edge calls o whole f is comes = is ∙ ap (λ (p : IndepOutcome). and_works p f) comes
+stops_then T U stop.NoMemory edge calls o whole f is comes = tt
 
 pub from_more : (plan : Plan) (told : Answers) (me : ℕ) (peer : EdgeId) (i n : ℕ) (edge : IndepState) (calls : List LinkCall) → i < n
     → tells_from plan told me peer i (n - i) edge calls ≡ and_works (tells_place plan told me peer i edge calls) (λ e c. tells_from plan told me peer (i + 1) (n - (i + 1)) e c)

@@ -118,7 +118,6 @@ impl IndepEdge {
     }
 
     // Messages are heard in turn.
-    #[tactic(auto, using(crate::proofs::HearLemmas::messages_more, crate::proofs::HearLemmas::messages_end, crate::proofs::TellLemmas::same_calls, crate::proofs::ChangedLemmas::only_same, crate::proofs::ChangedLemmas::one_more_heard, crate::proofs::ChangedLemmas::front_heard, crate::proofs::ChangedLemmas::all_heard_of))]
     fn hear_messages<L: Link>(
         &mut self,
         work: PeerWork,
@@ -171,7 +170,6 @@ impl IndepEdge {
     }
 
     // Octets are heard behind those that are held; those behind the last PDU are then held.
-    #[tactic(auto, using(crate::proofs::HearLemmas::all_heard, crate::proofs::TellLemmas::same_calls, crate::proofs::ChangedLemmas::all_start))]
     pub(crate) fn hear_octets<L: Link>(
         &mut self,
         receiver: &mut PeerStream,
