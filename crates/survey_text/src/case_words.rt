@@ -63,7 +63,6 @@ fn put_event<K: Sink>(
 }
 
 // The same behind a plus.
-#[tactic(auto, using(text_lines::proofs::WrittenLemmas::puts_two, text_lines::proofs::WrittenLemmas::cut_first))]
 fn put_plus<K: Sink>(page: &mut Page, sink: &mut K, plan: &Plan, fault: Fault) -> Result<(), Failed>
     ensures { PutsOn K.taken K.faults page.old page.new sink.old sink.new result (codes " +" ++ spaced (fault_words plan.now fault)) }
 {
@@ -89,7 +88,6 @@ fn put_later<K: Sink>(
 }
 
 // Puts the words of a first event and of further ones.
-#[tactic(auto, using(text_lines::proofs::WrittenLemmas::puts_two, text_lines::proofs::WrittenLemmas::cut_first))]
 fn put_some<K: Sink>(
     page: &mut Page,
     sink: &mut K,
@@ -122,7 +120,6 @@ fn put_all<K: Sink>(
 }
 
 /// Puts the events of a case, a plus between two, and the line's end.
-#[tactic(auto, using(text_lines::proofs::WrittenLemmas::puts_two, text_lines::proofs::WrittenLemmas::cut_first))]
 pub fn put_case_words<K: Sink>(
     page: &mut Page,
     sink: &mut K,

@@ -62,12 +62,34 @@ impl Known {
             ground: over.ground,
             faults: &[],
         };
-        reaching.befall(unfailed)?;
-        Ok(Known {
-            services: services_of(over, reaching, shapes)?,
-            faults: all_faults(over.alloc, over.plan, over.ground)?,
-            alone: Vec::new(over.alloc),
-        })
+        if let Err(NoMemory) = reaching.befall(unfailed) {
+            drop(shapes);
+            return Err(NoMemory);
+        }
+        match services_of(over, reaching, shapes) {
+            Ok(services) => Known::of_services(over, services),
+            Err(NoMemory) => Err(NoMemory),
+        }
+    }
+
+    // What is known of these services before the first case.
+    fn of_services(over: Over<'_>, services: Vec<Service>) -> Result<Known, NoMemory>
+        ghost before: { NetworkState }
+        requires over { IsOver before over }
+        requires services { AreServices over.plan.now before services.items }
+        ensures { IfOk result (IsKnown over.entry.plan.now before 0) }
+    {
+        match all_faults(over.alloc, over.plan, over.ground) {
+            Ok(faults) => Ok(Known {
+                services,
+                faults,
+                alone: Vec::new(over.alloc),
+            }),
+            Err(NoMemory) => {
+                drop(services);
+                Err(NoMemory)
+            }
+        }
     }
 
     /// The fault at a place.

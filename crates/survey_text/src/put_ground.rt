@@ -83,7 +83,6 @@ fn put_labels<K: Sink>(page: &mut Page, sink: &mut K, over: Over<'_>) -> Result<
 }
 
 /// Puts the lines of what there is before each case: service by service, and edge by edge.
-#[tactic(auto, using(text_lines::proofs::WrittenLemmas::puts_two, text_lines::proofs::WrittenLemmas::cut_first))]
 pub fn put_ground<K: Sink>(
     page: &mut Page,
     sink: &mut K,

@@ -54,13 +54,18 @@ impl Service {
             ground: over.ground,
             faults: &[],
         };
-        let reach = reaching.of(unfailed, &shape)?;
         let sites = Sites::of(over, shape.service);
-        Ok(Service {
-            shape,
-            sites,
-            reach,
-        })
+        match reaching.of(unfailed, &shape) {
+            Ok(reach) => Ok(Service {
+                shape,
+                sites,
+                reach,
+            }),
+            Err(NoMemory) => {
+                drop(shape);
+                Err(NoMemory)
+            }
+        }
     }
 
     /// What faults that have befallen the ground change.

@@ -34,11 +34,17 @@ impl Survey {
         ensures { IfOk result (IsSurveyOf over.entry.plan.now before) }
     {
         let mut work = Work::new(over.alloc);
-        Ok(Survey {
-            known: Known::new(over, &mut work.reaching, shapes)?,
-            work,
-            tally: Tally::new(over.alloc),
-        })
+        match Known::new(over, &mut work.reaching, shapes) {
+            Ok(known) => Ok(Survey {
+                known,
+                work,
+                tally: Tally::new(over.alloc),
+            }),
+            Err(NoMemory) => {
+                drop(work);
+                Err(NoMemory)
+            }
+        }
     }
 
     /// How many faults there are.

@@ -101,7 +101,6 @@ impl Tally {
     }
 
     /// Puts the last lines.
-    #[tactic(auto, using(text_lines::proofs::WrittenLemmas::puts_two, text_lines::proofs::WrittenLemmas::cut_first))]
     pub fn put<K: Sink>(
         &self,
         page: &mut Page,

@@ -26,7 +26,6 @@ pub fn put_head<K: Sink>(
 }
 
 /// Puts a word and a number, with which a line begins.
-#[tactic(auto, using(text_lines::proofs::WrittenLemmas::puts_two, text_lines::proofs::WrittenLemmas::cut_first))]
 pub fn put_count<K: Sink>(
     page: &mut Page,
     sink: &mut K,

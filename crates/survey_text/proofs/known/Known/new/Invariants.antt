@@ -6,5 +6,5 @@ ghost-befall g a = g.before
 abbrev pub ghost-services_of : goal.ghost-services_of
 ghost-services_of g a = g.before
 
-abbrev pub ghost-all_faults : goal.ghost-all_faults
-ghost-all_faults g a = g.before
+abbrev pub ghost-of_services : goal.ghost-of_services
+ghost-of_services g a = g.before
