@@ -1,18 +1,18 @@
 //! The network of a rehearsal.
-ghost use Rattle.std.specs.Prelude.{◌≡◌, ◌<◌, ◌≤◌, ◌∷◌, [], IfOk};
-ghost use Rattle.rehearsal.specs.Rows.{edge_row, edges_from, rehearsed_circuit, circuits_from, rehearsed_service, plan};
+ghost use Rattle.std.specs.Prelude.{◌≡◌, ◌<◌, ◌≤◌, ◌++◌, ◌∷◌, [], IfOk, OnOk};
+ghost use Rattle.rehearsal.specs.Rows.{edge_row, edges_from, rehearsed_circuit, circuits_from, rehearsed_service, plan, wires};
 
 use crate::numbered::numbered;
-use crate::wires::wires;
+use crate::wires::add_wires;
 use net_base::{
     Addr, CircuitPlan, EdgeId, EdgePlan, List, Name, NoMemory, Plan, ServiceId, ServicePlan,
 };
 use std::alloc::Global;
 
-fn edges(alloc: Global) -> Result<List<EdgePlan>, NoMemory>
-    ensures { IfOk result (λ rows. rows ≡ edges_from 16 1) }
+// Adds the edges.
+fn add_edges(alloc: Global, rows: &mut List<EdgePlan>) -> Result<(), NoMemory>
+    ensures { OnOk result (rows.new ≡ rows.old ++ edges_from 16 1) }
 {
-    let mut rows = List::new(alloc);
     for number in 1..17u8 {
         rows.push(EdgePlan {
             name: numbered(alloc, "e", number as u16)?,
@@ -22,7 +22,7 @@ fn edges(alloc: Global) -> Result<List<EdgePlan>, NoMemory>
             max_pdu: 4096,
         })?;
     }
-    Ok(rows)
+    Ok(())
 }
 
 fn service() -> ServicePlan
@@ -33,14 +33,6 @@ fn service() -> ServicePlan
         mtu: 1500,
         age: 300,
     }
-}
-
-fn services(alloc: Global) -> Result<List<ServicePlan>, NoMemory>
-    ensures { IfOk result (λ rows. rows ≡ rehearsed_service ∷ []) }
-{
-    let mut rows = List::new(alloc);
-    rows.push(service())?;
-    Ok(rows)
 }
 
 fn circuit(alloc: Global, number: u16) -> Result<CircuitPlan, NoMemory>
@@ -55,14 +47,27 @@ fn circuit(alloc: Global, number: u16) -> Result<CircuitPlan, NoMemory>
     })
 }
 
-fn circuits(alloc: Global) -> Result<List<CircuitPlan>, NoMemory>
-    ensures { IfOk result (λ rows. rows ≡ circuits_from 16 1) }
+// Adds the circuits.
+fn add_circuits(alloc: Global, rows: &mut List<CircuitPlan>) -> Result<(), NoMemory>
+    ensures { OnOk result (rows.new ≡ rows.old ++ circuits_from 16 1) }
 {
-    let mut rows = List::new(alloc);
     for number in 1..17u16 {
         rows.push(circuit(alloc, number)?)?;
     }
-    Ok(rows)
+    Ok(())
+}
+
+// Adds the rows of each kind to a plan.
+fn add_rows(alloc: Global, made: &mut Plan) -> Result<(), NoMemory>
+    ensures edges { OnOk result (made.new.edges ≡ made.old.edges ++ edges_from 16 1) }
+    ensures services { OnOk result (made.new.services ≡ made.old.services ++ rehearsed_service ∷ []) }
+    ensures circuits { OnOk result (made.new.circuits ≡ made.old.circuits ++ circuits_from 16 1) }
+    ensures wires { OnOk result (made.new.wires ≡ made.old.wires ++ wires) }
+{
+    add_edges(alloc, &mut made.edges)?;
+    made.services.push(service())?;
+    add_circuits(alloc, &mut made.circuits)?;
+    add_wires(alloc, &mut made.wires)
 }
 
 /// Sixteen edges, with a circuit of one service at each of them. The first eight are core edges in a full mesh; each of the others
@@ -71,10 +76,14 @@ fn circuits(alloc: Global) -> Result<List<CircuitPlan>, NoMemory>
 pub fn plan(alloc: Global) -> Result<Plan, NoMemory>
     ensures plan { IfOk result (λ made. made ≡ plan) }
 {
-    Ok(Plan {
-        edges: edges(alloc)?,
-        services: services(alloc)?,
-        circuits: circuits(alloc)?,
-        wires: wires(alloc)?,
-    })
+    let mut made = Plan {
+        edges: List::new(alloc),
+        services: List::new(alloc),
+        circuits: List::new(alloc),
+        wires: List::new(alloc),
+    };
+    match add_rows(alloc, &mut made) {
+        Ok(()) => Ok(made),
+        Err(fault) => Err(fault),
+    }
 }

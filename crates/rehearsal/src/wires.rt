@@ -91,17 +91,16 @@ fn add_mesh(
     Ok(())
 }
 
-// The full mesh of the core edges.
-fn mesh_wires(alloc: Global) -> Result<List<WirePlan>, NoMemory>
-    ensures { IfOk result (λ rows. rows ≡ mesh_among 8 1 1) }
+// Adds the full mesh of the core edges.
+fn add_mesh_wires(alloc: Global, wires: &mut List<WirePlan>) -> Result<(), NoMemory>
+    ensures { OnOk result (wires.new ≡ wires.old ++ mesh_among 8 1 1) }
 {
-    let mut rows = List::new(alloc);
     let mut number = 1;
     for from in 1..9u16 {
-        add_mesh(alloc, &mut rows, from, number)?;
+        add_mesh(alloc, wires, from, number)?;
         number += 8 - from;
     }
-    Ok(rows)
+    Ok(())
 }
 
 // Adds the two spokes of a spoke edge.
@@ -127,14 +126,14 @@ fn add_spokes(alloc: Global, wires: &mut List<WirePlan>, place: u16) -> Result<(
     wires.push(wire(alloc, "q", place + 9, second)?)
 }
 
-/// The full mesh of the core edges, and behind it the spokes, edge by edge.
+/// Adds the full mesh of the core edges, and behind it the spokes, edge by edge.
 #[tactic(auto, unfolding(crate::specs::Rows::wires))]
-pub fn wires(alloc: Global) -> Result<List<WirePlan>, NoMemory>
-    ensures { IfOk result (λ rows. rows ≡ wires) }
+pub fn add_wires(alloc: Global, rows: &mut List<WirePlan>) -> Result<(), NoMemory>
+    ensures { OnOk result (rows.new ≡ rows.old ++ wires) }
 {
-    let mut rows = mesh_wires(alloc)?;
+    add_mesh_wires(alloc, rows)?;
     for place in 0..8u16 {
-        add_spokes(alloc, &mut rows, place)?;
+        add_spokes(alloc, rows, place)?;
     }
-    Ok(rows)
+    Ok(())
 }

@@ -1,6 +1,6 @@
 use Rattle.std.proofs.Common.{refl, arith}
 use Rattle.rehearsal.proofs.RowLemmas.{among_more}
-use Rattle.rehearsal.proofs.wires.mesh_wires.Goals as goal
+use Rattle.rehearsal.proofs.wires.add_mesh_wires.Goals as goal
 
 pub loop-from-preserved : goal.loop-from-preserved
 loop-from-preserved c = record {
