@@ -2,7 +2,7 @@
 
 use crate::hex::{octets_of, push_octets};
 use crate::rows::{About, reads_as};
-use crate::words::is_told;
+use crate::words::{holds, is_same, is_told};
 use pcap_file::{read_capture, write_header, write_record};
 use std::alloc::Global;
 use std::process::Abort;
@@ -98,7 +98,7 @@ fn has_longest_frame(rt: &impl Abort, alloc: Global, octets: &[u8]) {
         [frame] => frame.len() == 262_144,
         _ => false,
     };
-    assert!(rt; is_longest);
+    holds(rt, is_longest, "one frame of 262,144 octets");
 }
 
 // What stands before its octets.
@@ -124,6 +124,6 @@ fn writes_low_octets_first(rt: HostRuntime) {
     let mut out = [0xEE; 44];
     let header = write_header(&mut out);
     let record = write_record(0x01020304, 3, &mut out[header..]);
-    assert!(rt; header == 24 && record == 16);
-    assert!(rt; out == WRITTEN);
+    holds(&rt, (header, record) == (24, 16), "24 octets and 16");
+    holds(&rt, is_same(&out, &WRITTEN), "the octets of both");
 }

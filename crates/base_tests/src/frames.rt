@@ -4,10 +4,9 @@ ghost use Rattle.std.specs.Prelude.{◌≤◌, length};
 
 use crate::hex::octets_of;
 use crate::rows::{About, reads_as};
-use crate::steps::{cut, event_of};
-use crate::words::{is_front, is_told};
+use crate::steps::{cut, event_of, label};
+use crate::words::{holds, is_front, is_same, is_told};
 use eth_encap::{FrameFault, dress, inner, pack, read_entry, unpack};
-use net_base::Label;
 use std::alloc::Global;
 use std::process::Abort;
 
@@ -51,10 +50,17 @@ fn written(
 {
     let (letter, mode) = how;
     let vlan = mode.parse::<u16>().ok();
-    let label = Label::new(16).expect(rt, "a label");
+    let label = label(rt, 16);
+    let has_word = is_same(mode.as_bytes(), b"word");
     match letter {
-        b'p' => Ok(pack(label, 255, mode == "word", vlan, octets, out)),
-        b'u' => unpack(mode == "word", mode == "tag", 1500, octets, out),
+        b'p' => Ok(pack(label, 255, has_word, vlan, octets, out)),
+        b'u' => unpack(
+            has_word,
+            is_same(mode.as_bytes(), b"tag"),
+            1500,
+            octets,
+            out,
+        ),
         b'l' => Ok(dress(vlan, octets, out)),
         _ => inner(vlan, 1500, octets, out),
     }
@@ -63,14 +69,12 @@ fn written(
 // Octets are written as these, or have the fault of these words.
 fn is_written(rt: &impl Abort, alloc: Global, how: (u8, &str), octets: &[u8], words: &str) {
     let mut out = [0xee; 64];
-    assert!(rt; octets.len() <= 48);
+    holds(rt, octets.len() <= 48, "48 octets at most");
     match written(rt, how, octets, &mut out) {
         Ok(count) => {
             let wanted = octets_of(rt, alloc, words);
-            assert!(rt;
-                count == wanted.len() && is_front(&out, wanted.as_slice()),
-                "{words}"
-            );
+            holds(rt, count == wanted.len(), words);
+            holds(rt, is_front(&out, wanted.as_slice()), words);
         }
         Err(fault) => is_told(rt, alloc, &Err::<usize, FrameFault>(fault), words),
     }

@@ -1,6 +1,6 @@
 //! One link in memory through its calls.
 
-use crate::words::is_told;
+use crate::words::{holds, is_told};
 use net_base::{EdgeId, Link, LinkStop, List, MemLink};
 use std::alloc::Global;
 use std::process::Abort;
@@ -27,13 +27,19 @@ fn answer(link: &mut MemLink, peer: EdgeId, bytes: &[u8], packet: bool) -> Optio
     }
 }
 
-// Makes each call, which the link answers so; one of them fails, and all are kept.
+// Makes a call, which the link answers so.
+fn makes(rt: &impl Abort, alloc: Global, link: &mut MemLink, call: &Call) {
+    let (peer, bytes, packet, words) = call;
+    let stop = answer(link, EdgeId(*peer), bytes, *packet);
+    is_told(rt, alloc, &stop, words);
+}
+
+// Makes each call; one of them fails, and all are kept.
 fn makes_each(rt: &impl Abort, alloc: Global, link: &mut MemLink) {
-    for (peer, bytes, packet, words) in CALLS.as_slice() {
-        let stop = answer(link, EdgeId(*peer), bytes, *packet);
-        is_told(rt, alloc, &stop, words);
+    for call in CALLS.as_slice() {
+        makes(rt, alloc, link, call);
     }
-    assert!(rt; link.faults() == 1);
+    holds(rt, link.faults() == 1, "one fault");
     is_told(rt, alloc, link.calls(), KEPT);
 }
 

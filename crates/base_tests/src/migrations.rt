@@ -1,7 +1,10 @@
 //! A scenario of version 1 that is migrated: its table of version 2, key by key, as an independent program made it.
 
+use crate::words::{holds, is_same};
 use migration::migrate;
 use scenario_text::read_scenario;
+use std::alloc::Global;
+use std::process::Abort;
 
 // Both ends of the first wire have a group, of its far end no MTU is told, and of the second wire the near end alone has a group.
 const OLD: &str = "version = 1
@@ -65,13 +68,18 @@ wire = [
 ]
 ";
 
+// The table of version 2, as it is printed.
+fn printed(rt: &impl Abort, alloc: Global) -> String {
+    let table = toml::table_from_str(alloc, NEW).expect(rt, "a table");
+    toml::table_to_string(alloc, &table).expect(rt, "memory")
+}
+
 #[test]
 #[tactic(auto, using(migration::proofs::JoinLemmas::was_read))]
 fn writes_each_key(rt: HostRuntime) {
     let alloc = rt.alloc();
     let scenario = read_scenario(alloc, OLD.as_bytes()).expect(&rt, "a scenario");
-    let table = toml::table_from_str(alloc, NEW).expect(&rt, "a table");
-    let printed = toml::table_to_string(alloc, &table).expect(&rt, "memory");
+    let printed = printed(&rt, alloc);
     let text = migrate(alloc, &scenario).expect(&rt, "memory");
-    assert!(rt; text.as_str() == printed.as_str());
+    holds(&rt, is_same(text.as_bytes(), printed.as_bytes()), NEW);
 }

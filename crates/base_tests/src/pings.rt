@@ -1,7 +1,9 @@
 //! The packets of one ping in each control channel, and a packet for each fault. Their octets were worked out by hand.
 ghost use Rattle.vccv_channel.specs.Reading.{IsRequest};
 
-use net_base::{Addr, Label};
+use crate::steps::label;
+use crate::words::holds;
+use net_base::Addr;
 use std::process::Abort;
 use vccv_channel::{Cc, Echo, Ping, VccvFault, answer, pick, read_echo, request};
 
@@ -63,9 +65,13 @@ const PICKS: [Pick; 9] = [
 
 // Each channel is picked.
 fn are_picked(rt: &impl Abort, rows: &[Pick]) {
-    for (place, row) in rows.iter().enumerate() {
+    for row in rows {
         let (local, remote, word, points, want) = *row;
-        assert!(rt; pick(local, remote, word, points) == want, "row {place}");
+        holds(
+            rt,
+            pick(local, remote, word, points) == want,
+            "the channel of a row",
+        );
     }
 }
 
@@ -84,15 +90,20 @@ fn stands(out: &[u8], place: usize, octets: &[u8]) -> bool {
 
 // What was written is a label stack and a packet behind it, and no octet more.
 fn is_written(rt: &impl Abort, out: &[u8], length: usize, stack: &[u8], packet: &[u8]) {
-    assert!(rt; stands(out, 0, stack) && stands(out, stack.len(), packet));
-    assert!(rt; stands(out, length, &[0xee]));
+    holds(rt, stands(out, 0, stack), "the label stack");
+    holds(rt, stands(out, stack.len(), packet), "the packet");
+    holds(rt, stands(out, length, &[0xee]), "no octet more");
 }
 
 // The ping in a channel has this stack and so many octets.
 fn asks(rt: &impl Abort, channel: Cc, stack: &[u8], length: usize) {
-    let label = Label::new(16).expect(rt, "a label");
+    let label = label(rt, 16);
     let mut out = [0xeeu8; 64];
-    assert!(rt; request(channel, label, 0, PING, &mut out) == length);
+    holds(
+        rt,
+        request(channel, label, 0, PING, &mut out) == length,
+        "so many octets",
+    );
     is_written(rt, &out, length, stack, &REQUEST);
 }
 
@@ -107,14 +118,18 @@ fn a_ping_in_each_channel(rt: HostRuntime) {
 fn is_request(rt: &impl Abort, packet: &[u8], sequence: u16)
     ensures { IsRequest packet.now }
 {
-    assert!(rt; packet.len() <= 1500);
+    holds(rt, packet.len() <= 1500, "1,500 octets at most");
     let asked = Echo::Request {
         from: NEAR,
         to: FAR,
         sequence,
         length: packet.len() as u16,
     };
-    assert!(rt; read_echo(packet, false, 100) == Ok(asked));
+    holds(
+        rt,
+        read_echo(packet, false, 100) == Ok(asked),
+        "the request",
+    );
 }
 
 // A request and its sequence number; its answer in a channel on a label, with service class bits, which has so many octets.
@@ -131,13 +146,14 @@ struct Answered {
 
 // A request has its answer.
 fn is_answered(rt: &impl Abort, answered: &Answered) {
-    let label = Label::new(answered.label).expect(rt, "a label");
+    let label = label(rt, answered.label);
     let request = answered.request;
     let mut out = [0xeeu8; 64];
     is_request(rt, request, answered.sequence);
-    assert!(rt; request.len() <= 52 && answered.points <= 3);
+    holds(rt, request.len() <= 52, "52 octets at most");
+    holds(rt, answered.points <= 3, "three points at most");
     let length = answer(answered.channel, label, answered.points, request, &mut out);
-    assert!(rt; length == answered.length);
+    holds(rt, length == answered.length, "so many octets");
     is_written(rt, &out, length, answered.stack, answered.packet);
 }
 
@@ -194,12 +210,16 @@ fn the_answer_in_each_channel(rt: HostRuntime) {
 
 // The answer behind its label is read again.
 fn is_read(rt: &impl Abort, packet: &[u8], sequence: u16) {
-    let label = Label::new(16).expect(rt, "a label");
+    let label = label(rt, 16);
     let mut out = [0xeeu8; 64];
     is_request(rt, packet, sequence);
-    assert!(rt; packet.len() <= 52);
+    holds(rt, packet.len() <= 52, "52 octets at most");
     answer(Cc::Header, label, 0, packet, &mut out);
-    assert!(rt; read_echo(&out[4..], true, 100) == Ok(Echo::Answer { sequence }));
+    holds(
+        rt,
+        read_echo(&out[4..], true, 100) == Ok(Echo::Answer { sequence }),
+        "the answer",
+    );
 }
 
 #[test]
@@ -228,7 +248,7 @@ const CHANGES: [Change; 13] = [
 
 // Puts an octet to a place.
 fn put(rt: &impl Abort, octets: &mut [u8], place: usize, octet: u8) {
-    assert!(rt; place < octets.len());
+    holds(rt, place < octets.len(), "a place");
     octets[place] = octet;
 }
 
@@ -246,11 +266,11 @@ fn has_fault(rt: &impl Abort, change: &Change) {
     let mut payload = payload();
     put(rt, &mut payload, first, one);
     put(rt, &mut payload, second, two);
-    let fails = match read_echo(&payload, true, 100) {
-        Ok(_) => false,
-        Err(found) => found == fault,
-    };
-    assert!(rt; fails, "{first} {second}");
+    holds(
+        rt,
+        read_echo(&payload, true, 100) == Err(fault),
+        "the first fault",
+    );
 }
 
 #[test]
@@ -273,8 +293,12 @@ fn read_long(total: u16, low: u8) -> Result<Echo, VccvFault> {
 
 #[test]
 fn reads_packets_of_1500_octets(rt: HostRuntime) {
-    assert!(rt; read_long(1500, 0x1e).is_ok());
-    assert!(rt; read_long(1501, 0x1d) == Err(VccvFault::Ip));
+    holds(&rt, read_long(1500, 0x1e).is_ok(), "1,500 octets");
+    holds(
+        &rt,
+        read_long(1501, 0x1d) == Err(VccvFault::Ip),
+        "1,501 octets",
+    );
 }
 
 // The answer of identifier and sequence number 0, with these octets as its checksum.
@@ -289,11 +313,19 @@ fn read_zeros(octet: u8) -> Result<Echo, VccvFault> {
 
 #[test]
 fn a_sum_of_no_bits_is_not_all_ones(rt: HostRuntime) {
-    assert!(rt; read_zeros(0xff) == Ok(Echo::Answer { sequence: 0 }));
-    assert!(rt; read_zeros(0x00) == Err(VccvFault::Checksum));
+    holds(
+        &rt,
+        read_zeros(0xff) == Ok(Echo::Answer { sequence: 0 }),
+        "all ones",
+    );
+    holds(&rt, read_zeros(0x00) == Err(VccvFault::Checksum), "no bits");
 }
 
 #[test]
 fn each_fault_is_a_cause(rt: HostRuntime) {
-    assert!(rt; VccvFault::NotOffered.cause() == net_base::DropCause::NotOffered);
+    holds(
+        &rt,
+        VccvFault::NotOffered.cause() == net_base::DropCause::NotOffered,
+        "the cause",
+    );
 }

@@ -1,9 +1,10 @@
 //! Small plans, with faults that were found by hand.
+ghost use Rattle.std.specs.Prelude.{◌≤◌, length};
 
 use crate::rows;
 use crate::rows::reads_as;
 use crate::steps::{cut, number_of};
-use crate::words::is_told;
+use crate::words::{holds, is_same, is_told};
 use hvpls_spokes::role;
 use net_base::{
     Addr, CircuitPlan, Class, EdgeId, EdgePlan, List, Name, Offer, Plan, ServiceId, ServicePlan,
@@ -62,7 +63,7 @@ fn wire(rt: &impl Abort, alloc: Global, words: &str) -> WirePlan {
     let (class, words) = cut(rt, words);
     let (text, words) = cut(rt, words);
     let (path, pw_id) = cut(rt, words);
-    let is_mesh = class == "mesh";
+    let is_mesh = is_same(class.as_bytes(), b"mesh");
     WirePlan {
         name: name(rt, text),
         service: ServiceId(0),
@@ -124,10 +125,22 @@ pub fn plan(rt: &impl Abort, alloc: Global, rows: &str) -> Plan {
     plan
 }
 
+/// A plan has no more rows of each kind than a plan may have.
+pub fn has_room(rt: &impl Abort, plan: &Plan)
+    ensures edges { length plan.now.edges ≤ 64 }
+    ensures services { length plan.now.services ≤ 64 }
+    ensures circuits { length plan.now.circuits ≤ 512 }
+    ensures wires { length plan.now.wires ≤ 1024 }
+{
+    holds(rt, plan.edges.len() <= 64, "64 edges at most");
+    holds(rt, plan.services.len() <= 64, "64 services at most");
+    holds(rt, plan.circuits.len() <= 512, "512 circuits at most");
+    holds(rt, plan.wires.len() <= 1024, "1,024 wires at most");
+}
+
 // The plan has the fault of these words.
 fn has_fault(rt: &impl Abort, alloc: Global, plan: &Plan, words: &str) {
-    assert!(rt; plan.edges.len() <= 64 && plan.services.len() <= 64);
-    assert!(rt; plan.circuits.len() <= 512 && plan.wires.len() <= 1024);
+    has_room(rt, plan);
     is_told(rt, alloc, &plan.check().err(), words);
 }
 
@@ -174,15 +187,24 @@ const THREE_EDGES: [EdgeId; 3] = [EdgeId(1), EdgeId(2), EdgeId(3)];
 // Each wire passes edges 1, 2 and 3 and has PW ID 7.
 fn pass_three_edges(rt: &impl Abort, wires: &[WirePlan]) {
     for wire in wires {
-        assert!(rt; wire.path.as_slice() == THREE_EDGES.as_slice() && wire.pw_id == 7);
+        holds(
+            rt,
+            wire.path.as_slice() == THREE_EDGES.as_slice(),
+            "edges 1, 2 and 3",
+        );
+        holds(rt, wire.pw_id == 7, "PW ID 7");
     }
 }
 
 // A copy of a plan with a wire over edges 1, 2 and 3.
 fn is_copied(rt: &impl Abort, plan: &Plan, copy: &Plan) {
-    assert!(rt; copy.edges.as_slice() == plan.edges.as_slice());
-    assert!(rt; copy.joined(EdgeId(3), EdgeId(2)));
-    assert!(rt; !copy.joined(EdgeId(3), EdgeId(1)));
+    holds(
+        rt,
+        copy.edges.as_slice() == plan.edges.as_slice(),
+        "the same edges",
+    );
+    holds(rt, copy.joined(EdgeId(3), EdgeId(2)), "joined");
+    holds(rt, !copy.joined(EdgeId(3), EdgeId(1)), "not joined");
     pass_three_edges(rt, copy.wires.as_slice());
 }
 
@@ -282,7 +304,7 @@ fn tells_each(rt: &impl Abort, alloc: Global, wire: &WirePlan) {
 
 // The end of a wire at an edge offers this group.
 fn offers(rt: &impl Abort, wire: &WirePlan, edge: EdgeId, group: u32) {
-    assert!(rt; wire.offer_of(edge).group == group);
+    holds(rt, wire.offer_of(edge).group == group, "the group");
 }
 
 #[test]

@@ -1,6 +1,6 @@
 //! The rehearsal: its wires, and the frames that some seeds draw, as another program made them.
 
-use crate::words::is_same;
+use crate::words::{holds, is_same};
 use net_base::{EdgeId, Event, WirePlan};
 use rehearsal::rehearsal;
 use scenario_text::{Command, Scenario};
@@ -61,28 +61,37 @@ fn add_frames(rt: &impl Abort, text: &mut Vec<u8>, commands: &[Command]) {
     }
 }
 
-// A seed draws these frames: the first six stand, each with its way, behind 44 connections and the settling, and the last three at the end.
-fn draws(rt: &impl Abort, alloc: Global, seed: u64, frames: &str) {
-    let scenario = scenario_of(rt, alloc, seed);
-    let commands = scenario.commands.as_slice();
-    assert!(rt; commands.len() == 4045, "{seed}");
+// The commands of a seed have these frames: the first six stand, each with its way, behind 44 connections and the settling, and the last
+// three at the end.
+fn have(rt: &impl Abort, alloc: Global, commands: &[Command], frames: &str) {
+    holds(rt, commands.len() == 4045, "4,045 commands");
     let (first, _) = commands.split_at(57);
     let (_, last) = commands.split_at(4039);
     let mut text = Vec::new(alloc);
     add_frames(rt, &mut text, first);
     add_frames(rt, &mut text, last);
-    assert!(rt; is_same(text.as_slice(), frames.as_bytes()), "{seed}");
+    holds(rt, is_same(text.as_slice(), frames.as_bytes()), frames);
+}
+
+// A seed draws these frames.
+fn draws(rt: &impl Abort, alloc: Global, seed: u64, frames: &str) {
+    let scenario = scenario_of(rt, alloc, seed);
+    have(rt, alloc, scenario.commands.as_slice(), frames);
+}
+
+// These wires are those of the mesh and the spokes.
+fn are_those(rt: &impl Abort, alloc: Global, wires: &[WirePlan]) {
+    let mut text = Vec::new(alloc);
+    for wire in wires {
+        add_wire(rt, &mut text, wire);
+    }
+    holds(rt, is_same(text.as_slice(), WIRES.as_bytes()), WIRES);
 }
 
 #[test]
 fn wires_of_the_mesh_and_the_spokes(rt: HostRuntime) {
-    let alloc = rt.alloc();
-    let scenario = scenario_of(&rt, alloc, 1);
-    let mut text = Vec::new(alloc);
-    for wire in scenario.plan.wires.as_slice() {
-        add_wire(&rt, &mut text, wire);
-    }
-    assert!(rt; is_same(text.as_slice(), WIRES.as_bytes()));
+    let scenario = scenario_of(&rt, rt.alloc(), 1);
+    are_those(&rt, rt.alloc(), scenario.plan.wires.as_slice());
 }
 
 #[test]

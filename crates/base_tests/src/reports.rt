@@ -1,6 +1,6 @@
 //! What no clause says: that the lines are those of the format, on a plan of two edges, a circuit and a wire.
 
-use crate::words::is_same;
+use crate::words::{holds, is_same};
 use net_base::{
     Arrival, CircuitId, Down, DropCause, EdgeId, Entry, Event, List, MemSink, Octets, Plan, Reason,
     StateName, Trace, WireId,
@@ -232,7 +232,7 @@ fn tells(rt: &impl Abort, alloc: Global, plan: &Plan, trace: &Trace, ending: End
     let mut page = Page::new(alloc).expect(rt, "memory");
     put_report(&mut page, &mut sink, plan, trace.as_slice(), ending).expect(rt, "a sound sink");
     page.flush(&mut sink).expect(rt, "a sound sink");
-    assert!(rt; is_same(sink.taken(), text.as_bytes()), "{text}");
+    holds(rt, is_same(sink.taken(), text.as_bytes()), text);
 }
 
 // The same in the plan.

@@ -3,6 +3,7 @@
 use crate::hex::octets_of;
 use crate::ldp::pdus::rows as pdus;
 use crate::ldp::values;
+use crate::words::holds;
 use crate::{captures, frames, plans};
 use std::alloc::Global;
 use std::process::Abort;
@@ -59,5 +60,5 @@ pub fn reads_as(rt: &impl Abort, alloc: Global, about: About, table: &str, count
             rows = rows.saturating_add(1);
         }
     }
-    assert!(rt; rows == count);
+    holds(rt, rows == count, "so many rows");
 }

@@ -1,5 +1,6 @@
 //! Words of steps.
 
+use net_base::Label;
 use std::process::Abort;
 
 /// The first letter of an event, and what stands behind its first word.
@@ -11,12 +12,12 @@ pub fn event_of<'a>(rt: &impl Abort, event: &'a str) -> (u8, &'a str) {
     }
 }
 
-/// The number of these digits.
-pub fn number(rt: &impl Abort, digits: &str) -> usize {
-    digits.parse::<usize>().ok().expect(rt, "a number")
+/// The label with this number.
+pub fn label(rt: &impl Abort, number: u32) -> Label {
+    Label::new(number).expect(rt, "a label")
 }
 
-/// A number of 32 bits of these digits.
+/// The number of these digits.
 pub fn number_of(rt: &impl Abort, digits: &str) -> u32 {
     digits.parse::<u32>().ok().expect(rt, "a number")
 }

@@ -3,6 +3,7 @@ ghost use Rattle.std.specs.Prelude.{◌≡◌, false};
 ghost use Rattle.mac_table.specs.Addresses.{NoneAfter};
 ghost use Rattle.net_values.specs.Mac.{is_group_address};
 
+use crate::words::holds;
 use mac_table::{Learned, MacEntry, MacTable};
 use net_base::{List, Mac};
 use std::alloc::Global;
@@ -14,18 +15,25 @@ const SECOND: Mac = Mac([2, 0, 0, 0, 0, 2]);
 
 const THIRD: Mac = Mac([2, 0, 0, 0, 1, 1]);
 
+// The first address at port 3 since tick 10.
+const AT_THREE: MacEntry = MacEntry {
+    address: FIRST,
+    port: 3,
+    tick: 10,
+};
+
 // A frame from a station came by a port at tick 10.
 fn learns(rt: &impl Abort, table: &mut MacTable, address: Mac, port: u16, want: Learned)
     requires station { is_group_address address.0 ≡ false }
     requires ticks { NoneAfter 10 table.old.entries }
     ensures ticks { NoneAfter 10 table.new.entries }
 {
-    assert!(rt; table.learn(address, port, 10) == want);
+    holds(rt, table.learn(address, port, 10) == want, "learns");
 }
 
 // The port of an address.
 fn finds(rt: &impl Abort, table: &MacTable, address: Mac, port: Option<u16>) {
-    assert!(rt; table.find(address) == port);
+    holds(rt, table.find(address) == port, "finds");
 }
 
 // A table with room for two addresses learns three.
@@ -40,12 +48,8 @@ fn learns_three(rt: &impl Abort, table: &mut MacTable)
 
 // The table holds two of them, the first at port 3 since tick 10.
 fn holds_two(rt: &impl Abort, table: &MacTable) {
-    let first = MacEntry {
-        address: FIRST,
-        port: 3,
-        tick: 10,
-    };
-    assert!(rt; table.len() == 2 && table.entry(0) == Some(first));
+    holds(rt, table.len() == 2, "two addresses");
+    holds(rt, table.entry(0) == Some(AT_THREE), "the first at port 3");
     finds(rt, table, SECOND, Some(1));
     finds(rt, table, THIRD, None);
 }
@@ -57,17 +61,24 @@ fn learns_up_to_its_capacity(rt: HostRuntime) {
     holds_two(&rt, &table);
 }
 
-#[test]
+// A table learns two addresses and forgets the older one, and then that of a port.
 #[tactic(auto, using(mac_table::proofs::AddressLemmas::none_after_later))]
-fn forgets_old_addresses(rt: HostRuntime) {
-    let mut table = MacTable::open(rt.alloc(), 4).expect(&rt, "memory");
+fn forgets(rt: &impl Abort, table: &mut MacTable)
+    requires ticks { NoneAfter 10 table.old.entries }
+{
     table.learn(FIRST, 1, 10);
     table.learn(SECOND, 2, 11);
     table.age(40, 30);
-    assert!(rt; table.find(FIRST).is_none());
-    assert!(rt; table.find(SECOND) == Some(2));
+    finds(rt, table, FIRST, None);
+    finds(rt, table, SECOND, Some(2));
     table.drop_port(2);
-    assert!(rt; table.is_empty());
+    holds(rt, table.is_empty(), "no address");
+}
+
+#[test]
+fn forgets_old_addresses(rt: HostRuntime) {
+    let mut table = MacTable::open(rt.alloc(), 4).expect(&rt, "memory");
+    forgets(&rt, &mut table);
 }
 
 // A table with the three addresses, the second of them at port 2.

@@ -1,6 +1,7 @@
 //! Where MAC withdraws go on from an edge, and in how many pieces they are told, worked out by hand.
 
-use crate::plans::plan;
+use crate::plans::{has_room, plan};
+use crate::words::holds;
 use hvpls_spokes::{PortKind, Ports, Role};
 use mac_withdraw::{pass_to, pieces};
 use net_base::{EdgeId, Plan, ServiceId};
@@ -14,8 +15,9 @@ const HIERARCHY: &str =
 
 // The ports of the service of a plan at an edge.
 fn ports_of(rt: &impl Abort, alloc: Global, plan: &Plan, edge: u16) -> Ports {
-    assert!(rt; plan.edges.len() <= 64 && usize::from(edge) < plan.edges.len());
-    assert!(rt; plan.services.len() == 1 && plan.circuits.len() <= 512 && plan.wires.len() <= 1024);
+    has_room(rt, plan);
+    holds(rt, usize::from(edge) < plan.edges.len(), "an edge");
+    holds(rt, plan.services.len() == 1, "one service");
     plan.check().expect(rt, "a plan without a fault");
     Ports::open(alloc, plan, ServiceId(0), EdgeId(edge)).expect(rt, "memory")
 }
@@ -27,7 +29,11 @@ fn passes(rt: &impl Abort, ports: &Ports, role: Role, from: u16, to: &[u16]) {
     let passed = pass_to(ports, role, from);
     for port in 0..ports.len() {
         let is_passed = passed.contains(port);
-        assert!(rt; is_passed == to.contains(&port), "from {from} to {port}");
+        holds(
+            rt,
+            is_passed == to.contains(&port),
+            "passed on by the ports of the row alone",
+        );
     }
 }
 
@@ -47,7 +53,7 @@ const ROWS: [Row; 6] = [
 fn pass(rt: &impl Abort, alloc: Global, plan: &Plan, row: &Row) {
     let (edge, role, count, from, to) = *row;
     let ports = ports_of(rt, alloc, plan, edge);
-    assert!(rt; ports.len() == count);
+    holds(rt, ports.len() == count, "so many ports");
     passes(rt, &ports, role, from, to);
 }
 
@@ -65,6 +71,6 @@ const PIECES: [(usize, usize); 6] = [(0, 1), (1, 1), (30, 1), (31, 2), (60, 2), 
 #[test]
 fn tells_at_most_30_addresses_in_a_piece(rt: HostRuntime) {
     for (count, want) in PIECES.as_slice() {
-        assert!(rt; pieces(*count) == *want, "of {count}");
+        holds(&rt, pieces(*count) == *want, "so many pieces");
     }
 }

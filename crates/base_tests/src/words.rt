@@ -1,5 +1,7 @@
 //! What values are told as: in the words of their types, or in those of a fault.
 
+ghost use Rattle.std.specs.Prelude.{◌≡◌, true};
+
 use net_base::Text;
 use std::alloc::Global;
 use std::fmt::{Debug, Display};
@@ -46,16 +48,23 @@ fn are_words(rt: &impl Abort, alloc: Global, told: &str, words: &str) -> bool {
     }
 }
 
+/// This is so, or the test ends with these words. Tests ask it by this one call, since each `assert!` takes long to prove.
+pub fn holds(rt: &impl Abort, is_so: bool, words: &str)
+    ensures { is_so ≡ true }
+{
+    assert!(rt; is_so, "{words}");
+}
+
 /// A value is told in these words of its type, where a name, a key or an empty description stands in quotes.
 pub fn is_told<T: Debug>(rt: &impl Abort, alloc: Global, value: &T, words: &str) {
     let told = format!(in alloc; "{value:?}").expect(rt, "memory");
-    assert!(rt; are_words(rt, alloc, told.as_str(), words), "{words}");
+    holds(rt, are_words(rt, alloc, told.as_str(), words), words);
 }
 
 /// A fault says these words.
 pub fn says<T: Display>(rt: &impl Abort, alloc: Global, fault: &T, words: &str) {
     let told = format!(in alloc; "{fault}").expect(rt, "memory");
-    assert!(rt; is_same(told.as_bytes(), words.as_bytes()), "{words}");
+    holds(rt, is_same(told.as_bytes(), words.as_bytes()), words);
 }
 
 /// Each of these faults says the words beside it.
@@ -70,8 +79,12 @@ pub fn is_same(one: &[u8], other: &[u8]) -> bool {
     one == other
 }
 
+// More octets than stand behind what is written.
+const UNTOUCHED: [u8; 96] = [0xee; 96];
+
 /// The front of what was written is these octets, and what stands behind them stays 0xee.
 pub fn is_front(out: &[u8], octets: &[u8]) -> bool {
     let (front, rest) = out.split_at(octets.len().min(out.len()));
-    is_same(front, octets) && rest.iter().all(|octet| *octet == 0xee)
+    let (untouched, _) = UNTOUCHED.split_at(rest.len().min(96));
+    is_same(front, octets) && is_same(rest, untouched)
 }

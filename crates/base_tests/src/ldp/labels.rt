@@ -1,9 +1,10 @@
 //! One label space through its calls: which numbers wait, rest and are given again, worked out by hand.
 ghost use Rattle.std.specs.Prelude.{◌≡◌, ◌≤◌, length};
 
-use crate::steps::{cut, event_of, number_of};
+use crate::steps::{cut, event_of, label, number_of};
+use crate::words::{holds, is_same};
 use label_space::{LabelSpace, NoLabel};
-use net_base::{EdgeId, Label, NoMemory, SegKey, WireId};
+use net_base::{EdgeId, NoMemory, SegKey, WireId};
 use std::alloc::Global;
 use std::process::Abort;
 
@@ -21,7 +22,7 @@ struct Labels {
 
 // The neighbour of this name, B or C.
 fn neighbour(name: &str) -> EdgeId {
-    EdgeId(if name == "C" { 2 } else { 1 })
+    EdgeId(if is_same(name.as_bytes(), b"C") { 2 } else { 1 })
 }
 
 // The segment to a neighbour.
@@ -35,7 +36,8 @@ fn segment(peer: EdgeId) -> SegKey {
 impl Labels {
     // Its first number is this one.
     fn open(rt: &impl Abort, alloc: Global, first: u32) -> Result<Labels, NoMemory> {
-        assert!(rt; (16..=1_048_576).contains(&first));
+        holds(rt, 16 <= first, "a label");
+        holds(rt, first <= 1_048_576, "a label");
         let space = LabelSpace::open(alloc, first, ROOM)?;
         Ok(Labels { space, owned: 0 })
     }
@@ -43,14 +45,14 @@ impl Labels {
     // The number that the end towards a neighbour gets.
     #[tactic(auto, using(label_space::proofs::HeldLemmas::long_issued))]
     fn issue(&mut self, rt: &impl Abort, peer: EdgeId) -> Result<u32, NoLabel> {
-        assert!(rt; self.owned < ROOM);
+        holds(rt, self.owned < ROOM, "room for one label more");
         self.owned += 1;
         Ok(self.space.issue(segment(peer), 1, peer)?.number())
     }
 
     // Whether the label with this number is owned so.
     fn is_owned(&self, rt: &impl Abort, number: u32, owner: Option<(SegKey, u8)>) -> bool {
-        self.space.owner(Label::new(number).expect(rt, "a label")) == owner
+        self.space.owner(label(rt, number)) == owner
     }
 
     // Whether the end towards a neighbour gets this number, and owns it.
@@ -64,7 +66,7 @@ impl Labels {
     fn gives_all(&mut self, rt: &impl Abort, words: &str) -> bool {
         let (name, numbers) = cut(rt, words);
         let peer = neighbour(name);
-        if numbers == "none" {
+        if is_same(numbers.as_bytes(), b"none") {
             return !self.space.has_number() && self.issue(rt, peer) == Err(NoLabel);
         }
         let (first, last) = range_of(rt, numbers);
@@ -78,7 +80,7 @@ impl Labels {
     // The end that owns the label with this number lets it go; whether none owns it then.
     #[tactic(auto, using(label_space::proofs::HeldLemmas::long_freed))]
     fn loses(&mut self, rt: &impl Abort, number: u32) -> bool {
-        self.space.free(Label::new(number).expect(rt, "a label"));
+        self.space.free(label(rt, number));
         self.is_owned(rt, number, None)
     }
 
@@ -152,8 +154,7 @@ fn read_line(rt: &impl Abort, alloc: Global, labels: &mut Labels, line: &str) {
     if letter == b'a' {
         *labels = Labels::open(rt, alloc, number_of(rt, more)).expect(rt, "memory");
     } else {
-        let agrees = labels.does(rt, letter, more);
-        assert!(rt; agrees, "{line}");
+        holds(rt, labels.does(rt, letter, more), line);
     }
 }
 
@@ -277,10 +278,15 @@ const STEPS: &str = "
     gives C none
 ";
 
+// A label space takes all steps.
+fn take_all(rt: &impl Abort, alloc: Global, labels: &mut Labels) {
+    for line in STEPS.lines() {
+        read_line(rt, alloc, labels, line.trim());
+    }
+}
+
 #[test]
 fn gives_numbers_as_they_are_free(rt: HostRuntime) {
     let mut labels = Labels::open(&rt, rt.alloc(), 16).expect(&rt, "memory");
-    for line in STEPS.lines() {
-        read_line(&rt, rt.alloc(), &mut labels, line.trim());
-    }
+    take_all(&rt, rt.alloc(), &mut labels);
 }

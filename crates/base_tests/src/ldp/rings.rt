@@ -3,8 +3,8 @@ ghost use Rattle.std.specs.Prelude.{◌≡◌, true};
 ghost use Rattle.ldp_stream.specs.Seen.{HasNext};
 
 use crate::hex::octets_of;
-use crate::words::is_told;
-use ldp_codec::MessageView;
+use crate::words::{holds, is_told};
+use ldp_codec::{MessageView, Part};
 use ldp_stream::Stream;
 use std::alloc::Global;
 use std::process::Abort;
@@ -29,7 +29,8 @@ fn comes(rt: &impl Abort, stream: &mut Stream, octets: &[u8]) {
             Ok(None) => true,
             _ => false,
         };
-        assert!(rt; waits && stream.feed(&[*octet]) == 1);
+        holds(rt, waits, "nothing is lent");
+        holds(rt, stream.feed(&[*octet]) == 1, "one octet is taken");
     }
 }
 
@@ -56,16 +57,24 @@ fn is_keep_alive(message: &MessageView<'_>) -> bool {
 // A KeepAlive is lent.
 fn lends_keep_alive(rt: &impl Abort, stream: &Stream) {
     let message = only_message(stream).expect(rt, "a message");
-    assert!(rt; is_keep_alive(&message));
+    holds(rt, is_keep_alive(&message), "a KeepAlive");
+}
+
+// The parameters of an Initialization, with this KeepAlive Time and receiver.
+fn are_parameters(rt: &impl Abort, value: &Part<'_>) {
+    holds(rt, value.len() == 14, "14 octets");
+    holds(rt, value.two(2) == 180, "the KeepAlive Time");
+    holds(rt, value.byte(8) == 10, "the first octet of the receiver");
+    holds(rt, value.four(8) == 0x0a00_0001, "the receiver");
 }
 
 // An Initialization is lent; how many of its parameters lie in two pieces.
 fn lends_parameters(rt: &impl Abort, stream: &Stream) -> usize {
     let message = only_message(stream).expect(rt, "a message");
-    assert!(rt; !message.is_keep_alive() && message.value(0x0100).is_none());
+    holds(rt, !message.is_keep_alive(), "no KeepAlive");
+    holds(rt, message.value(0x0100).is_none(), "no FEC");
     let value = message.value(0x0500).expect(rt, "parameters");
-    assert!(rt; value.len() == 14 && value.two(2) == 180);
-    assert!(rt; value.byte(8) == 10 && value.four(8) == 0x0a00_0001);
+    are_parameters(rt, &value);
     if value.as_slice().is_some() { 0 } else { 1 }
 }
 
@@ -81,7 +90,7 @@ fn has_front(stream: &Stream) -> bool
 
 // The PDU in front is given up.
 fn give_up(rt: &impl Abort, stream: &mut Stream) {
-    assert!(rt; has_front(stream));
+    holds(rt, has_front(stream), "a PDU in front");
     stream.pass();
 }
 
@@ -130,6 +139,6 @@ fn lends_at_each_place(rt: HostRuntime) {
     let even = goes_round(&rt, alloc, &mut stream);
     goes_on(&rt, alloc, &mut stream);
     let odd = goes_round(&rt, alloc, &mut stream);
-    assert!(rt; even == 6 && odd == 7);
-    assert!(rt; stream.held() == 0);
+    holds(&rt, (even, odd) == (6, 7), "six and seven in two pieces");
+    holds(&rt, stream.held() == 0, "no octet is held");
 }

@@ -2,8 +2,8 @@
 
 use crate::hex::octets_of;
 use crate::rows::{About, reads_as};
-use crate::steps::{event_of, number};
-use crate::words::is_told;
+use crate::steps::{event_of, number_of};
+use crate::words::{holds, is_told};
 use ldp_codec::{DecodeFault, decode_pdu};
 use ldp_grammar::{LdpId, Message, Pdu};
 use net_base::{Addr, Reason};
@@ -59,23 +59,28 @@ fn hear(session: Session, pdu: &Pdu) -> (Session, Replies) {
     }
 }
 
-// Octets come: a PDU with one message, or what is no PDU. The session begins where there are none.
-fn comes(rt: &impl Abort, alloc: Global, session: Session, digits: &str) -> (Session, Replies) {
-    if digits.is_empty() {
-        return session.start();
-    }
-    let octets = octets_of(rt, alloc, digits);
-    match decode_pdu(alloc, octets.as_slice(), 4096) {
+// Octets come: a PDU with one message, or what is no PDU.
+fn read(rt: &impl Abort, alloc: Global, session: Session, octets: &[u8]) -> (Session, Replies) {
+    match decode_pdu(alloc, octets, 4096) {
         Ok(pdu) => hear(session, &pdu),
         Err(fault) => {
-            assert!(rt; fault != DecodeFault::NoMemory);
+            holds(rt, fault != DecodeFault::NoMemory, "memory");
             session.refused(fault)
         }
     }
 }
 
+// The octets of these digits come. The session begins where there are none.
+fn comes(rt: &impl Abort, alloc: Global, session: Session, digits: &str) -> (Session, Replies) {
+    if digits.is_empty() {
+        session.start()
+    } else {
+        read(rt, alloc, session, octets_of(rt, alloc, digits).as_slice())
+    }
+}
+
 // So many ticks pass; what the last of them brings about.
-fn pass(session: Session, count: usize) -> (Session, Replies) {
+fn pass(session: Session, count: u32) -> (Session, Replies) {
     let mut session = session;
     for _tick in 1..count {
         session = session.tick().0;
@@ -96,10 +101,10 @@ fn take(
 ) -> (Session, Replies) {
     match letter {
         b'b' => session.start(),
-        b't' => pass(session, number(rt, more)),
-        b'w' => pass(session.spoke(), number(rt, more)),
+        b't' => pass(session, number_of(rt, more)),
+        b'w' => pass(session.spoke(), number_of(rt, more)),
         b'h' => {
-            let router = Addr([10, 0, 0, (number(rt, more) % 256) as u8]);
+            let router = Addr([10, 0, 0, (number_of(rt, more) % 256) as u8]);
             session.heard(LdpId { router, space: 0 })
         }
         b'l' => session.closed(Reason::Closed).start(),
@@ -273,7 +278,7 @@ fn follows_the_table_of_states(rt: HostRuntime) {
             rows = rows.saturating_add(1);
         }
     }
-    assert!(rt; rows == 113);
+    holds(&rt, rows == 113, "113 rows");
 }
 
 // The Initializations of both ends, as a table of PDUs.

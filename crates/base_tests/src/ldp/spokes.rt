@@ -1,5 +1,6 @@
 //! Choices among spokes that were worked out by hand, and the statuses that follow from them.
 
+use crate::words::holds;
 use pw_signalling::EndRole;
 use pw_tlvs::PwStatus;
 use spoke_redundancy::{Spoke, choose, status_to_tell};
@@ -23,7 +24,7 @@ fn unusable(priority: u8) -> Spoke {
 
 // Of these spokes, the one at this place is chosen.
 fn chooses(rt: &impl Abort, spokes: &[Spoke], place: Option<usize>) {
-    assert!(rt; choose(spokes) == place);
+    holds(rt, choose(spokes) == place, "the chosen spoke");
 }
 
 #[test]
@@ -47,7 +48,11 @@ fn chooses_among_usable_spokes(rt: HostRuntime) {
 
 // An end of this role with these bits tells this status.
 fn tells(rt: &impl Abort, role: EndRole, bits: u8, status: u32) {
-    assert!(rt; status_to_tell(role, bits) == PwStatus(status));
+    holds(
+        rt,
+        status_to_tell(role, bits) == PwStatus(status),
+        "the status",
+    );
 }
 
 #[test]

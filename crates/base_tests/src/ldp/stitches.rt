@@ -2,7 +2,8 @@
 ghost use Rattle.std.specs.Prelude.{◌≡◌, Some};
 ghost use Rattle.pw_signalling.specs.AnyEnd.{end_of};
 
-use crate::words::is_same;
+use crate::steps::label;
+use crate::words::{holds, is_same};
 use net_base::{Addr, DropCause, Label, Text};
 use pw_signalling::{Binding, PwEnd, PwIdle, Told};
 use pw_stitch::{Side, Stitch, SwapDrop, accepts, is_same_but_status, relabel};
@@ -35,11 +36,6 @@ fn told(rt: &impl Abort, status: u32) -> Told {
     }
 }
 
-// The label with this number.
-fn label(rt: &impl Abort, number: u32) -> Label {
-    Label::new(number).expect(rt, "a label")
-}
-
 // An end that is bound to this label and content, and tells nothing.
 fn bound(label: Label, told: Told) -> PwEnd
     ensures { (end_of result).remote ≡ Some (record { label = label; told = told }) }
@@ -49,11 +45,20 @@ fn bound(label: Label, told: Told) -> PwEnd
 
 // What a switching point passes on of what it is told by an edge after it on the path. It tells nothing to that edge then.
 fn passed(rt: &impl Abort, told: Told, own: Addr, from: Addr) -> Told {
-    assert!(rt; told.points.len() < 3);
+    holds(rt, told.points.len() < 3, "room for one point more");
     let mut stitch = Stitch::new();
     let before = stitch.replace(Side::After, bound(label(rt, 17), told));
-    assert!(rt; before.remote().is_none() && stitch.end(Side::After).remote().is_some());
-    assert!(rt; stitch.wanted(Side::After, own, from, 100).is_none());
+    holds(rt, before.remote().is_none(), "nothing is told before");
+    holds(
+        rt,
+        stitch.end(Side::After).remote().is_some(),
+        "the edge after it tells",
+    );
+    holds(
+        rt,
+        stitch.wanted(Side::After, own, from, 100).is_none(),
+        "tells it nothing",
+    );
     stitch
         .wanted(Side::Before, own, from, 100)
         .expect(rt, "a content")
@@ -63,7 +68,8 @@ fn passed(rt: &impl Abort, told: Told, own: Addr, from: Addr) -> Told {
 fn is_behind(rt: &impl Abort, told: &Told, octets: &[u8]) {
     let mut out = [0u8; 18];
     let point = told.points.get(0).expect(rt, "a point");
-    assert!(rt; write_point(&point, &mut out) == 18 && is_same(&out, octets));
+    holds(rt, write_point(&point, &mut out) == 18, "18 octets");
+    holds(rt, is_same(&out, octets), "the octets of the point");
 }
 
 // A switching point and the edge after it on the path, by which a content passes; and who accepts it then, and who does not.
@@ -80,7 +86,7 @@ const THREE: [Pass; 3] = [
 // These edges accept a content, or do not.
 fn accept(rt: &impl Abort, told: &Told, edges: &[(Addr, bool)]) {
     for (edge, want) in edges {
-        assert!(rt; accepts(*edge, told) == *want, "{edge:?}");
+        holds(rt, accepts(*edge, told) == *want, "accepted or not");
     }
 }
 
@@ -91,7 +97,8 @@ fn passed_by(rt: &impl Abort, status: u32, passes: &[Pass]) -> Told {
         content = passed(rt, content, *own, *from);
         accept(rt, &content, edges);
     }
-    assert!(rt; content.points.len() == passes.len() && content.status == Some(PwStatus(status)));
+    holds(rt, content.points.len() == passes.len(), "a point of each");
+    holds(rt, content.status == Some(PwStatus(status)), "the status");
     content
 }
 
@@ -134,7 +141,7 @@ fn behind(rt: &impl Abort, points: &[Point]) -> Told {
 
 #[test]
 fn accepts_two_other_points(rt: HostRuntime) {
-    assert!(rt; read_point(&POINT) == Ok(AT_B));
+    holds(&rt, read_point(&POINT) == Ok(AT_B), "the point of B");
     for (points, want) in POINTS.as_slice() {
         accept(&rt, &behind(&rt, points), &[(B, *want)]);
     }
@@ -180,7 +187,8 @@ const UNBOUND: [Swap; 1] = [(16, 1, Err(SwapDrop::NoBinding))];
 // Whether a packet goes on like this.
 fn goes_on(rt: &impl Abort, stitch: &Stitch, (number, ttl, want): Swap) -> bool {
     let label = label(rt, number);
-    assert!(rt; ttl >= 1 && stitch.takes(label));
+    holds(rt, ttl >= 1, "a TTL");
+    holds(rt, stitch.takes(label), "a label that is taken");
     match (stitch.swap(label, ttl), want) {
         (Ok(next), Ok(want)) => (next.side, next.label.number(), next.ttl) == want,
         (Err(cause), Err(want)) => cause == want,
@@ -191,10 +199,14 @@ fn goes_on(rt: &impl Abort, stitch: &Stitch, (number, ttl, want): Swap) -> bool 
 // Packets go on like this, label 500 is not taken, and this status is to be passed on to the end before.
 fn swaps(rt: &impl Abort, stitch: &Stitch, rows: &[Swap], status: u32) {
     for row in rows {
-        assert!(rt; goes_on(rt, stitch, *row), "{row:?}");
+        holds(rt, goes_on(rt, stitch, *row), "goes on");
     }
-    let passes = stitch.status_to_pass(Side::Before) == PwStatus(status);
-    assert!(rt; passes && !stitch.takes(label(rt, 500)));
+    holds(
+        rt,
+        stitch.status_to_pass(Side::Before) == PwStatus(status),
+        "the status",
+    );
+    holds(rt, !stitch.takes(label(rt, 500)), "label 500 is not taken");
 }
 
 const CAUSES: [(SwapDrop, DropCause); 2] = [
@@ -209,7 +221,7 @@ fn passes_packets_both_ways(rt: HostRuntime) {
     drop(stitch.replace(Side::After, PwEnd::Idle(PwIdle::new())));
     swaps(&rt, &stitch, UNBOUND.as_slice(), 0);
     for (swap, cause) in CAUSES.as_slice() {
-        assert!(rt; swap.cause() == *cause);
+        holds(&rt, swap.cause() == *cause, "the cause");
     }
 }
 
@@ -217,12 +229,20 @@ fn passes_packets_both_ways(rt: HostRuntime) {
 fn keeps_all_but_label_and_ttl(rt: HostRuntime) {
     let mut packet = [0x00, 0x01, 0x0f, 0xff, 0x12, 0x34];
     relabel(label(&rt, 500), 254, &mut packet);
-    assert!(&rt; is_same(&packet, &[0x00, 0x1f, 0x4f, 0xfe, 0x12, 0x34]));
+    holds(
+        &rt,
+        is_same(&packet, &[0x00, 0x1f, 0x4f, 0xfe, 0x12, 0x34]),
+        "label 500 and TTL 254",
+    );
 }
 
 // Whether a content differs from one of status 0 in no more than its status.
 fn differs(rt: &impl Abort, content: &Told, want: bool) {
-    assert!(rt; is_same_but_status(&told(rt, 0), content) != want);
+    holds(
+        rt,
+        is_same_but_status(&told(rt, 0), content) != want,
+        "differs or not",
+    );
 }
 
 #[test]

@@ -2,8 +2,8 @@
 ghost use Rattle.std.specs.Prelude.{◌≤◌};
 
 use crate::hex::octets_of;
-use crate::steps::{event_of, number};
-use crate::words::is_told;
+use crate::steps::{event_of, number_of};
+use crate::words::{holds, is_told};
 use ldp_grammar::Pdu;
 use ldp_stream::{Stream, StreamFault};
 use std::alloc::Global;
@@ -34,7 +34,7 @@ fn feed(rt: &impl Abort, alloc: Global, stream: &mut Stream, digits: &str) -> us
 
 // Octets come, and all are taken.
 fn feed_whole(rt: &impl Abort, stream: &mut Stream, octets: &[u8]) {
-    assert!(rt; stream.feed(octets) == octets.len());
+    holds(rt, stream.feed(octets) == octets.len(), "all are taken");
 }
 
 // Zeros come, at most 4095; how many are taken.
@@ -46,7 +46,8 @@ fn feed_zeros(stream: &mut Stream, count: usize) -> usize {
 
 // A PDU Length may be no more than this.
 fn limit(rt: &impl Abort, stream: &mut Stream, max: usize) -> usize {
-    assert!(rt; 256 <= max && max <= 4096);
+    holds(rt, 256 <= max, "256 at least");
+    holds(rt, max <= 4096, "4,096 at most");
     stream.set_max(max as u16);
     max
 }
@@ -56,8 +57,8 @@ fn limit(rt: &impl Abort, stream: &mut Stream, max: usize) -> usize {
 fn count_of(rt: &impl Abort, alloc: Global, stream: &mut Stream, letter: u8, more: &str) -> usize {
     match letter {
         b'f' => feed(rt, alloc, stream, more),
-        b'z' => feed_zeros(stream, number(rt, more)),
-        b'm' => limit(rt, stream, number(rt, more)),
+        b'z' => feed_zeros(stream, number_of(rt, more) as usize),
+        b'm' => limit(rt, stream, number_of(rt, more) as usize),
         b'a' => {
             *stream = Stream::new(alloc).expect(rt, "memory");
             stream.held()
@@ -84,7 +85,7 @@ fn take(rt: &impl Abort, alloc: Global, stream: &mut Stream, step: &str, want: &
         b's' => feed_singly(rt, alloc, stream, more, want),
         _ => {
             let count = count_of(rt, alloc, stream, letter, more);
-            assert!(rt; count == number(rt, want), "{want}");
+            holds(rt, count == number_of(rt, want) as usize, want);
         }
     }
 }
@@ -98,7 +99,7 @@ fn goes_through(rt: &impl Abort, alloc: Global, stream: &mut Stream, script: &st
             rows = rows.saturating_add(1);
         }
     }
-    assert!(rt; rows == count);
+    holds(rt, rows == count, "so many rows");
 }
 
 // Octets are refused with the fault at the place 0 as soon as the last of them is held, and from then on.
@@ -198,7 +199,7 @@ fn takes(rt: &impl Abort, alloc: Global, stream: &mut Stream, front: &[u8], back
     let (first, second) = PDUS.split_at(ended_within(front.len()));
     goes_on(rt, alloc, stream, front, first);
     goes_on(rt, alloc, stream, back, second);
-    assert!(rt; stream.held() == 0);
+    holds(rt, stream.held() == 0, "no octet is held");
 }
 
 // Octets that are cut at a place.
@@ -211,7 +212,7 @@ fn is_cut(rt: &impl Abort, alloc: Global, octets: &[u8], at: usize) {
 #[test]
 fn answers_the_same_of_each_cut(rt: HostRuntime) {
     let octets = octets_of(&rt, rt.alloc(), TWO);
-    assert!(rt; octets.len() == 40);
+    holds(&rt, octets.len() == 40, "40 octets");
     for at in 0..41 {
         is_cut(&rt, rt.alloc(), octets.as_slice(), at);
     }

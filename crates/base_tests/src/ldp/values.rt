@@ -2,7 +2,7 @@
 ghost use Rattle.std.specs.Prelude.{◌≤◌, length};
 
 use crate::rows::{About, reads_as};
-use crate::words::{is_front, is_told, says};
+use crate::words::{holds, is_front, is_told, says};
 use net_base::Field;
 use pw_tlvs::{
     FecValue, FieldFault, MacsFault, Point, Points, fec_size, is_writable_fec, macs_size,
@@ -92,7 +92,8 @@ const MACS: &str = "
 
 // So many octets were written, which are these.
 fn are_written(rt: &impl Abort, out: &[u8; 28], count: usize, octets: &[u8]) {
-    assert!(rt; count == octets.len() && is_front(out, octets));
+    holds(rt, count == octets.len(), "so many octets");
+    holds(rt, is_front(out, octets), "the octets");
 }
 
 // The octets are this FEC; where it is a written one, it is written as these octets again.
@@ -103,8 +104,13 @@ fn is_fec(rt: &impl Abort, alloc: Global, about: About, octets: &[u8], words: &s
     is_told(rt, alloc, &read, words);
     if let (About::WrittenFecs, Ok(FecValue::Pw(fec))) = (about, read) {
         let mut out = [0xee; 28];
-        assert!(rt; is_writable_fec(&fec));
-        assert!(rt; fec_size(&fec) == octets.len() && octets.len() <= 28);
+        holds(rt, is_writable_fec(&fec), "writable");
+        holds(
+            rt,
+            fec_size(&fec) == octets.len(),
+            "of the size of the octets",
+        );
+        holds(rt, octets.len() <= 28, "28 octets at most");
         let count = write_fec(&fec, &mut out);
         are_written(rt, &out, count, octets);
     }
@@ -117,7 +123,11 @@ fn is_point(rt: &impl Abort, alloc: Global, octets: &[u8], words: &str)
     is_told(rt, alloc, &read, words);
     if let Ok(point) = read {
         let mut out = [0xee; 28];
-        assert!(rt; point_size(&point) == octets.len());
+        holds(
+            rt,
+            point_size(&point) == octets.len(),
+            "of the size of the octets",
+        );
         let count = write_point(&point, &mut out);
         are_written(rt, &out, count, octets);
     }
@@ -142,7 +152,12 @@ fn are_macs(rt: &impl Abort, alloc: Global, octets: &[u8], words: &str)
     is_told(rt, alloc, &read, words);
     if let Ok(list) = &read {
         let mut out = [0xee; 28];
-        assert!(rt; macs_size(list) == octets.len() && octets.len() <= 28);
+        holds(
+            rt,
+            macs_size(list) == octets.len(),
+            "of the size of the octets",
+        );
+        holds(rt, octets.len() <= 28, "28 octets at most");
         let count = write_macs(list, &mut out);
         are_written(rt, &out, count, octets);
     }
@@ -150,7 +165,7 @@ fn are_macs(rt: &impl Abort, alloc: Global, octets: &[u8], words: &str)
 
 /// The octets of a row, which are few, are the value or have the fault of its words.
 pub fn agrees(rt: &impl Abort, alloc: Global, about: About, octets: &[u8], words: &str) {
-    assert!(rt; octets.len() <= 200);
+    holds(rt, octets.len() <= 200, "200 octets at most");
     match about {
         About::Points => is_point(rt, alloc, octets, words),
         About::Statuses => is_status(rt, alloc, octets, words),
@@ -182,15 +197,20 @@ fn numbered(pw_id: u32) -> Point {
 #[test]
 fn holds_points(rt: HostRuntime) {
     let mut points = Points::empty();
-    assert!(rt; points.is_empty());
+    holds(&rt, points.is_empty(), "no point");
     points.add(numbered(1));
     points.add(numbered(2));
     points.add(numbered(3));
-    assert!(rt; points.len() == 3 && !points.is_empty());
+    holds(&rt, points.len() == 3 && !points.is_empty(), "three points");
     for index in 0..3u8 {
-        assert!(rt; points.get(index as usize) == Some(numbered(index as u32 + 1)));
+        let point = numbered(index as u32 + 1);
+        holds(
+            &rt,
+            points.get(index as usize) == Some(point),
+            "the points in turn",
+        );
     }
-    assert!(rt; points.get(3).is_none());
+    holds(&rt, points.get(3).is_none(), "no fourth point");
 }
 
 const VALUE: FieldFault = FieldFault::Value {

@@ -1,5 +1,7 @@
 //! One end through its calls, with values that were worked out by hand.
 
+use crate::steps::label;
+use crate::words::holds;
 use net_base::{Down, Label, Text};
 use pw_signalling::{Binding, EndRole, PwEnd, PwIdle, Told};
 use pw_tlvs::{Points, PwStatus};
@@ -68,11 +70,6 @@ fn told(rt: &impl Abort, c: bool, kind: u16, mtu: Option<u16>) -> Told {
     }
 }
 
-// The label with this number.
-fn label(rt: &impl Abort, number: u32) -> Label {
-    Label::new(number).expect(rt, "a label")
-}
-
 // Takes what came.
 fn comes(rt: &impl Abort, end: PwEnd, came: Came) -> PwEnd {
     match came {
@@ -123,7 +120,7 @@ fn take(rt: &impl Abort, end: PwEnd, step: Step) -> PwEnd {
         Step::Came(came) => comes(rt, end, came),
         Step::Own(own) => calls(rt, end, own),
         Step::Is(is) => {
-            assert!(rt; agrees(&end, is));
+            holds(rt, agrees(&end, is), "the end");
             end
         }
     }

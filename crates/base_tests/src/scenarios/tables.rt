@@ -1,6 +1,6 @@
 //! Tables of documents and of what they are read as.
 
-use crate::words::is_told;
+use crate::words::{holds, is_told};
 use scenario_text::{Scenario, read_scenario};
 use std::alloc::Global;
 use std::process::Abort;
@@ -12,7 +12,7 @@ fn is_scenario(rt: &impl Abort, alloc: Global, scenario: &Scenario, words: &str)
     } else if words.starts_with("List") {
         is_told(rt, alloc, &scenario.commands, words);
     } else {
-        assert!(rt; scenario.commands.is_empty());
+        holds(rt, scenario.commands.is_empty(), "no commands");
         is_told(rt, alloc, &scenario.plan, words);
     }
 }
@@ -62,5 +62,5 @@ pub fn read_as(
             rows = rows.saturating_add(1);
         }
     }
-    assert!(rt; rows == count);
+    holds(rt, rows == count, "so many rows");
 }

@@ -1,7 +1,7 @@
 //! One PDU for each fault, with its place and its field.
 
 use crate::rows::{About, reads_as};
-use crate::words::says;
+use crate::words::{holds, says};
 use ldp_codec::{DecodeFault, decode_pdu};
 use net_base::Field;
 
@@ -143,7 +143,8 @@ const FAULTS: &str = "
 fn keeps_to_the_maximum(rt: HostRuntime) {
     let octets = [0u8, 1, 1, 1];
     let fault = decode_pdu(rt.alloc(), &octets, 256).err();
-    assert!(rt; fault == Some(DecodeFault::PduLength { at: 2 }));
+    let wanted = Some(DecodeFault::PduLength { at: 2 });
+    holds(&rt, fault == wanted, "a wrong PDU Length");
 }
 
 #[test]

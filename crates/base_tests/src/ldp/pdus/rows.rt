@@ -3,7 +3,7 @@ ghost use Rattle.std.specs.Prelude.{◌≡◌, ◌≤◌, ◌<◌, length, true}
 ghost use Rattle.ldp_grammar.specs.Written.{address_octets, list_length, mac_count, macs_length, message_octets, writable};
 
 use crate::rows::About;
-use crate::words::{is_front, is_told};
+use crate::words::{holds, is_front, is_told};
 use ldp_codec::{decode_pdu, encode_into, view_pdu};
 use ldp_grammar::{AddressList, LdpId, Message, Pdu, is_writable, message_size};
 use net_base::{Addr, List, Mac};
@@ -65,10 +65,10 @@ fn size_of(rt: &impl Abort, message: &Message) -> usize
     ensures size { result ≡ length (message_octets message.now) }
     ensures short { result < 86 }
 {
-    assert!(rt; is_writable(message));
-    assert!(rt; has_few(message));
+    holds(rt, is_writable(message), "writable");
+    holds(rt, has_few(message), "few addresses");
     let size = message_size(message);
-    assert!(rt; size < 86);
+    holds(rt, size < 86, "a short message");
     size
 }
 
@@ -77,8 +77,9 @@ fn is_written(rt: &impl Abort, message: &Message, octets: &[u8]) {
     let mut out = [0xeeu8; 96];
     let size = size_of(rt, message);
     let count = encode_into(message, SENDER, &mut out);
-    assert!(rt; count == 10 + size && octets.len() == count);
-    assert!(rt; is_front(&out, octets));
+    holds(rt, count == 10 + size, "a header and the message");
+    holds(rt, octets.len() == count, "so many octets");
+    holds(rt, is_front(&out, octets), "the octets");
 }
 
 // The message of a PDU has these words; where its sender is not 10.0.0.1:0, the whole PDU has them.
@@ -97,7 +98,7 @@ fn is_pdu(rt: &impl Abort, alloc: Global, about: About, pdu: &Pdu, octets: &[u8]
     let message = only_message(pdu).expect(rt, "one message");
     match about {
         About::BothWays => is_written(rt, message, octets),
-        About::OneWay => assert!(rt; !is_writable(message)),
+        About::OneWay => holds(rt, !is_writable(message), "not writable"),
         _ => {}
     }
 }

@@ -1,7 +1,9 @@
 //! Which messages can be written, of those that are not read.
 
+use crate::steps::label;
+use crate::words::holds;
 use ldp_grammar::{Message, StatusCode, is_writable};
-use net_base::{Label, List, Text};
+use net_base::{List, Text};
 use pw_tlvs::{IfParams, Points, PwFec, is_writable_fec};
 use std::process::Abort;
 
@@ -46,22 +48,26 @@ fn request(fec: PwFec) -> Message {
 }
 
 // The message can be written or not.
-fn is_writable_as(rt: &impl Abort, message: Message, can: bool) {
-    assert!(rt; is_writable(&message) == can);
+fn is_writable_as(rt: &impl Abort, message: &Message, can: bool) {
+    holds(rt, is_writable(message) == can, "writable or not");
+}
+
+// A Label Mapping of an element.
+fn mapping(rt: &impl Abort, fec: PwFec) -> Message {
+    Message::LabelMapping {
+        id: 1,
+        fec,
+        label: label(rt, 16),
+        pw_status: None,
+        points: Points::empty(),
+    }
 }
 
 // The element can be written or not, and so can a Label Request. A Label Mapping needs a PW ID too.
 fn agrees(rt: &impl Abort, fec: PwFec, can: bool) {
-    assert!(rt; is_writable_fec(&fec) == can);
-    is_writable_as(rt, request(fec), can);
-    let mapping = Message::LabelMapping {
-        id: 1,
-        fec,
-        label: Label::new(16).expect(rt, "a label"),
-        pw_status: None,
-        points: Points::empty(),
-    };
-    is_writable_as(rt, mapping, can && fec.pw_id.is_some());
+    holds(rt, is_writable_fec(&fec) == can, "writable or not");
+    is_writable_as(rt, &request(fec), can);
+    is_writable_as(rt, &mapping(rt, fec), can && fec.pw_id.is_some());
 }
 
 #[test]
@@ -81,36 +87,53 @@ const LONG_DATA: StatusCode = StatusCode {
     kind: 0,
 };
 
+// A Notification of it.
+const LONG_NOTIFICATION: Message = Message::Notification {
+    id: 1,
+    status: LONG_DATA,
+    pw_status: None,
+    fec: None,
+};
+
+// A withdrawal of an element without a MAC list.
+fn withdrawal(fec: Option<PwFec>) -> Message {
+    Message::AddressWithdraw {
+        id: 1,
+        addresses: None,
+        fec,
+        macs: None,
+    }
+}
+
+// An Address of these octets.
+fn address(octets: List<u8>) -> Message {
+    Message::Address {
+        id: 1,
+        family: 1,
+        octets,
+    }
+}
+
 // A withdrawal without a MAC list, of an element of a group; a part of an address; and a Notification of a status that is too long.
 #[test]
 fn writes_no_half_messages(rt: HostRuntime) {
-    let withdraw = Message::AddressWithdraw {
-        id: 1,
-        addresses: None,
-        fec: Some(element(&rt, ROWS[8], true, 7)),
-        macs: None,
-    };
-    is_writable_as(&rt, withdraw, false);
-    let address = Message::Address {
-        id: 1,
-        family: 1,
-        octets: List::from_bytes(rt.alloc(), &[10, 0, 0]).expect(&rt, "memory"),
-    };
-    is_writable_as(&rt, address, false);
-    let notification = Message::Notification {
-        id: 1,
-        status: LONG_DATA,
-        pw_status: None,
-        fec: None,
-    };
-    is_writable_as(&rt, notification, false);
+    let fec = Some(element(&rt, ROWS[8], true, 7));
+    let octets = List::from_bytes(rt.alloc(), &[10, 0, 0]).expect(&rt, "memory");
+    is_writable_as(&rt, &withdrawal(fec), false);
+    is_writable_as(&rt, &address(octets), false);
+    is_writable_as(&rt, &LONG_NOTIFICATION, false);
+}
+
+// A message has this Message ID and type.
+fn is_of(rt: &impl Abort, message: &Message, id: u32, kind: u16) {
+    holds(rt, message.id() == id, "the Message ID");
+    holds(rt, message.message_type() == kind, "the type");
 }
 
 // Of a message whose description is empty.
 #[test]
 fn tells_the_id_and_the_type(rt: HostRuntime) {
     let fec = element(&rt, ROWS[8], true, 7);
-    assert!(rt; fec.params.description.is_empty());
-    let message = request(fec);
-    assert!(rt; (message.id(), message.message_type()) == (8, 0x0401));
+    holds(&rt, fec.params.description.is_empty(), "no description");
+    is_of(&rt, &request(fec), 8, 0x0401);
 }
