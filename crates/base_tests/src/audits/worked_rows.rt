@@ -1,8 +1,5 @@
 //! Reports of runs, made by another program that runs the same scenarios, and one of them with one thing changed in each.
 
-use crate::audits::rows::Row;
-use trace_audit::AuditStop;
-
 /// An edge with three circuits of a service.
 pub const BRIDGE: &str = r#"version = 1
 [[edge]]
@@ -234,51 +231,34 @@ pw_id = 3
 "#;
 
 /// A flooded frame, and the same with one thing changed.
-pub static BRIDGED: &[Row] = &[
-    // All is told.
-    Row {
-        report: r#"vplsnet 1
+pub const BRIDGED: &str = "# All is told. = None
+vplsnet 1
 > frame c1 ffffffffffff0200000000010800
 in c1 1 ffffffffffff0200000000010800
 left c2 1 0 ffffffffffff0200000000010800
 left c3 1 0 ffffffffffff0200000000010800
 end events=1 in=1 left=2 sent=0 dropped=0
-"#,
-        stop: None,
-    },
-    // A circuit is left out.
-    Row {
-        report: r#"vplsnet 1
+# A circuit is left out. = Some(Once { line: 3 })
+vplsnet 1
 > frame c1 ffffffffffff0200000000010800
 in c1 1 ffffffffffff0200000000010800
 left c2 1 0 ffffffffffff0200000000010800
 end events=1 in=1 left=1 sent=0 dropped=0
-"#,
-        stop: Some(AuditStop::Once { line: 3 }),
-    },
-    // It leaves as another frame.
-    Row {
-        report: r#"vplsnet 1
+# It leaves as another frame. = Some(Isolated { line: 4 })
+vplsnet 1
 > frame c1 ffffffffffff0200000000010800
 in c1 1 ffffffffffff0200000000010800
 left c2 2 0 ffffffffffff0200000000010800
 left c3 1 0 ffffffffffff0200000000010800
 end events=1 in=1 left=2 sent=0 dropped=0
-"#,
-        stop: Some(AuditStop::Isolated { line: 4 }),
-    },
-    // One more is counted.
-    Row {
-        report: r#"vplsnet 1
+# One more is counted. = Some(Form { line: 6 })
+vplsnet 1
 > frame c1 ffffffffffff0200000000010800
 in c1 1 ffffffffffff0200000000010800
 left c2 1 0 ffffffffffff0200000000010800
 left c3 1 0 ffffffffffff0200000000010800
 end events=1 in=1 left=3 sent=0 dropped=0
-"#,
-        stop: Some(AuditStop::Form { line: 6 }),
-    },
-];
+";
 
 /// Of `MESH`: a flooded frame crosses.
 pub const CROSSED: &str = r#"vplsnet 1
