@@ -1,5 +1,6 @@
 //! Hellos as they are said, and octets that are none.
 use crate::script_files::plans::{A, B, C, adjacencies};
+use crate::words::{holds, is_same};
 use ldp_discovery::{Adjacencies, HELLO_SIZE, Heard, HelloFault};
 use net_base::EdgeId;
 use std::alloc::Global;
@@ -7,7 +8,7 @@ use std::process::Abort;
 
 /// The octets of the next Hello of an edge.
 pub fn said(rt: &impl Abort, edge: &mut Adjacencies, peer: EdgeId, hold: u16) -> [u8; HELLO_SIZE] {
-    assert!(rt; (peer.0 as usize) < edge.count());
+    holds(rt, (peer.0 as usize) < edge.count(), "an edge");
     let mut octets = [0; HELLO_SIZE];
     edge.say(peer, hold, &mut octets);
     octets
@@ -27,16 +28,24 @@ const SECOND: [u8; 34] = [
 #[test]
 fn says_hellos_under_rising_numbers(rt: HostRuntime) {
     let mut a = adjacencies(&rt, rt.alloc(), A);
-    let first = said(&rt, &mut a, B, 45);
-    assert!(rt; first == FIRST);
-    let second = said(&rt, &mut a, C, 65535);
-    assert!(rt; second == SECOND);
+    holds(
+        &rt,
+        is_same(&said(&rt, &mut a, B, 45), &FIRST),
+        "the first Hello",
+    );
+    holds(
+        &rt,
+        is_same(&said(&rt, &mut a, C, 65535), &SECOND),
+        "the second Hello",
+    );
 }
 
 #[test]
 fn knows_which_edges_are_joined(rt: HostRuntime) {
     let a = adjacencies(&rt, rt.alloc(), A);
-    assert!(rt; a.is_joined(B) && !a.is_joined(C) && !a.is_joined(A));
+    holds(&rt, a.is_joined(B), "joined");
+    holds(&rt, !a.is_joined(C), "not joined");
+    holds(&rt, !a.is_joined(A), "not joined to itself");
 }
 
 // Nothing; a Hello that ends early; a KeepAlive; a link Hello; one of another label space, of another edge, and with the transport address
@@ -78,24 +87,30 @@ const FAULTS: [(&[u8], HelloFault); 7] = [
     ),
 ];
 
-/// An edge hears octets of a peer.
-pub fn heard(
+/// An edge hears octets of the peer B, of which this comes.
+pub fn hears(rt: &impl Abort, alloc: Global, edge: &mut Adjacencies, octets: &[u8], want: Heard) {
+    holds(rt, (B.0 as usize) < edge.count(), "an edge");
+    let heard = edge.hear(alloc, B, octets).ok().expect(rt, "memory");
+    holds(rt, heard == want, "what comes of the octets");
+}
+
+// An edge ignores octets of the peer B for this fault, and has no adjacency with it.
+fn ignores(
     rt: &impl Abort,
     alloc: Global,
     edge: &mut Adjacencies,
-    peer: EdgeId,
     octets: &[u8],
-) -> Heard {
-    assert!(rt; (peer.0 as usize) < edge.count());
-    edge.hear(alloc, peer, octets).ok().expect(rt, "memory")
+    fault: HelloFault,
+) {
+    hears(rt, alloc, edge, octets, Heard::Ignored(fault));
+    holds(rt, !edge.lives(B), "no adjacency");
 }
 
 #[test]
 fn tells_why_octets_are_no_hello(rt: HostRuntime) {
     let mut a = adjacencies(&rt, rt.alloc(), A);
-    for (octets, fault) in FAULTS {
-        assert!(rt; heard(&rt, rt.alloc(), &mut a, B, octets) == Heard::Ignored(fault));
-        assert!(rt; !a.lives(B));
+    for (octets, fault) in FAULTS.as_slice() {
+        ignores(&rt, rt.alloc(), &mut a, octets, *fault);
     }
 }
 
@@ -106,6 +121,7 @@ fn hears_a_hello_without_a_transport_address(rt: HostRuntime) {
     let octets = [
         0, 1, 0, 22, 10, 0, 0, 2, 0, 0, 1, 0, 0, 12, 0, 0, 0, 1, 4, 0, 0, 4, 0, 15, 0xc0, 0,
     ];
-    assert!(rt; heard(&rt, rt.alloc(), &mut a, B, &octets) == Heard::Fresh);
-    assert!(rt; a.lives(B) && !a.lives(C));
+    hears(&rt, rt.alloc(), &mut a, &octets, Heard::Fresh);
+    holds(&rt, a.lives(B), "an adjacency");
+    holds(&rt, !a.lives(C), "no other one");
 }

@@ -2,10 +2,12 @@
 ghost use Rattle.net_base.specs.plan.Accepted.{IsChecked};
 
 use crate::script_files::plans::long_wire;
+use crate::script_files::scripts::is_at;
+use crate::words::holds;
 use net_base::Plan;
 use std::alloc::Global;
 use std::process::Abort;
-use switchover_script::{ScriptFault, read_script};
+use switchover_script::read_script;
 
 // Names of no edge; words that are missing or one too many; numbers that are too small or too large; a wire of three edges, and names of no
 // wire; first words of no line; and a word that is none behind one that fits no line.
@@ -39,22 +41,31 @@ const FAULTS: [(&str, u32, u32); 27] = [
     ("connect a b\nask a u\nsettle  9\n", 3, 2),
 ];
 
-// The place of the first fault of a short script.
-fn fault_of(rt: &impl Abort, alloc: Global, plan: &Plan, text: &str) -> (u32, u32)
+// The first fault of a short script is here.
+fn has_fault(rt: &impl Abort, alloc: Global, plan: &Plan, row: &(&str, u32, u32))
     requires { IsChecked plan.now }
 {
-    assert!(rt; text.len() < 1000);
-    match read_script(alloc, plan, text.as_bytes()) {
-        Err(ScriptFault::Bad { line, word }) => (line, word),
-        _ => (0, 0),
+    let (text, line, word) = row;
+    holds(rt, text.len() < 1000, "a short script");
+    is_at(
+        rt,
+        read_script(alloc, plan, text.as_bytes()).err(),
+        *line,
+        *word,
+    );
+}
+
+// Each script has its first fault there.
+fn have_faults(rt: &impl Abort, alloc: Global, plan: &Plan)
+    requires { IsChecked plan.now }
+{
+    for row in FAULTS.as_slice() {
+        has_fault(rt, alloc, plan, row);
     }
 }
 
 #[test]
 fn names_the_first_word_that_fits_no_line(rt: HostRuntime) {
     let plan = long_wire(&rt, rt.alloc());
-    for (text, line, word) in FAULTS {
-        let (found, at) = fault_of(&rt, rt.alloc(), &plan, text);
-        assert!(rt; found == line && at == word);
-    }
+    have_faults(&rt, rt.alloc(), &plan);
 }

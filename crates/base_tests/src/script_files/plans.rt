@@ -1,7 +1,8 @@
 //! Plans of three edges.
-ghost use Rattle.std.specs.Prelude.{◌≡◌, length};
+ghost use Rattle.std.specs.Prelude.{◌≡◌, ◌<◌, length};
 ghost use Rattle.net_base.specs.plan.Accepted.{IsChecked};
 
+use crate::words::holds;
 use ldp_discovery::Adjacencies;
 use net_base::{EdgeId, Plan};
 use scenario_text::read_scenario;
@@ -40,17 +41,23 @@ pub fn three_edges(rt: &impl Abort, alloc: Global) -> Plan
     ensures count { length result.edges ≡ 3 }
 {
     let plan = plan_of(rt, alloc, THREE_EDGES);
-    assert!(rt; plan.edges.len() == 3);
+    holds(rt, plan.edges.len() == 3, "three edges");
     plan
+}
+
+// The adjacencies of an edge of a plan.
+fn opened(rt: &impl Abort, alloc: Global, plan: &Plan, me: EdgeId) -> Adjacencies
+    requires checked { IsChecked plan.now }
+    requires me { me.0 < length plan.now.edges }
+{
+    Adjacencies::open(alloc, plan, me).ok().expect(rt, "memory")
 }
 
 /// The adjacencies of one of them.
 pub fn adjacencies(rt: &impl Abort, alloc: Global, me: EdgeId) -> Adjacencies {
-    assert!(rt; me.0 < 3);
+    holds(rt, me.0 < 3, "one of three edges");
     let plan = three_edges(rt, alloc);
-    Adjacencies::open(alloc, &plan, me)
-        .ok()
-        .expect(rt, "memory")
+    opened(rt, alloc, &plan, me)
 }
 
 // Of two wires one has three edges.
