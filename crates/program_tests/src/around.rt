@@ -1,4 +1,18 @@
-//! What lies around the calls of the tests: a shelf, a sink and words, and how a call has to end.
+//! What lies around the calls of the tests: sheets of rows, a shelf, a sink and words, and how a call has to end.
+//!
+//! A sheet is a text of sections, each of which begins with a line `: NAME`, and of rows, each of which begins with a line `= TITLE`. What
+//! a row does not say its sheet says before its first row, and what neither says stands in the text that is given with the sheet. A section
+//! has what stands behind its name, up to the end of the last line before the next mark; an empty line there keeps that end.
+//!
+//! - `words`: the words of the call, parted by blanks.
+//! - `opening`, `front`, `piece` as often as `times` says, and `back`: what the shelf holds under `f`. Behind it, each on lines
+//!   of its own, `closing`, `tables`, `wires` and `more`. These are pairs of hexadecimal digits where there is a section `hexadecimal`.
+//! - `s`: what the shelf holds under `s`; `g.pcap`, `k.pcap`, `q.pcap` and `r.pcap`: the same under these names, in hexadecimal digits.
+//! - `shelf` and `sink`: which call of each fails, by its number; `room`: how much the sink takes, else 20,000 octets.
+//! - `told`: the status, and the line on standard error, where the call is not done.
+//! - `entries`: how many entries the run has.
+//! - `taken`: the text that the sink has to take, or its front where there is no more room; `octets`: the same in hexadecimal digits.
+//! - `ends`: with what it has to end, `begins`: with what before that, and `long`: how many octets it has to be.
 
 use net_base::{List, MemShelf, MemSink, Sink};
 use std::alloc::Global;
@@ -7,68 +21,29 @@ use vplsnet::finish_line::finish_line;
 use vplsnet::run::run;
 use vplsnet::{Finish, Outcome};
 
-/// A call over a shelf and a sink, and how it has to end.
+// A row of a sheet: its own text, what its sheet says before its first row, and what is given with the sheet.
 #[derive(Clone, Copy)]
-pub struct Case {
-    /// The words of the call, parted by blanks.
-    pub words: &'static str,
-    /// What the shelf holds under `f`: these texts one behind the other, the piece so many times.
-    pub opening: &'static str,
-    pub front: &'static str,
-    pub piece: &'static str,
-    pub times: u32,
-    pub back: &'static str,
-    pub closing: &'static str,
-    pub tables: &'static str,
-    pub wires: &'static str,
-    pub more: &'static str,
-    /// Whether the texts are pairs of hexadecimal digits, with blanks between them.
-    pub is_hexadecimal: bool,
-    /// What the shelf holds beside it: names, and pairs of hexadecimal digits of the octets.
-    pub others: &'static [(&'static str, &'static str)],
-    /// The text that the shelf holds under `s`, if it holds one.
-    pub second: Option<&'static str>,
-    /// Which calls of the shelf and the sink fail, by their numbers (none for 0), and how much the sink takes.
-    pub shelf_fails: u64,
-    pub sink_fails: u64,
-    pub room: usize,
-    /// The status, how many entries the run has where that is told, what the sink takes, and the line on standard error,
-    /// empty where the call is done.
-    pub status: u8,
-    pub entries: Option<usize>,
-    pub taken: Taken,
-    pub told: &'static str,
+struct Row<'a> {
+    text: &'a str,
+    head: &'a str,
+    given: &'a str,
 }
 
-/// What a sink has to take.
-#[derive(Clone, Copy)]
-pub enum Taken {
-    /// This text.
-    Whole(&'static str),
-    /// The octets of these pairs of hexadecimal digits.
-    Octets(&'static str),
-    /// So many octets of this text, from its front.
-    Front(&'static str, usize),
-    /// What ends with these two texts.
-    Ends(&'static str, &'static str),
-    /// So many octets, and what ends with this text.
-    Long(usize, &'static str),
-    /// These lines, which ` / ` parts.
-    Lines(&'static str),
-}
+/// A replay of version 1 whose rows have its events.
+pub const REPLAY: &str = "
+: words replay f
+: opening version = 1
+events = [
+: closing ]
+";
 
-/// What stands in a row of a table, and else in the case: the words of the call, what the file has, and how the call ends.
-#[derive(Clone, Copy)]
-struct Row {
-    words: &'static str,
-    front: &'static str,
-    status: u8,
-    taken: Taken,
-    told: &'static str,
-}
-
-/// One edge and three circuits of a service.
+/// A replay over one edge and three circuits of a service.
 pub const ONE_EDGE: &str = "
+: words replay f
+: opening version = 1
+events = [
+: closing ]
+: tables
 [[edge]]
 name = \"e\"
 address = \"10.0.0.1\"
@@ -88,39 +63,47 @@ edge = \"e\"
 service = \"s\"
 ";
 
-/// A replay of no events, in a sound surrounding, that is done.
-pub const REPLAY: Case = Case {
-    words: "replay f",
-    opening: "version = 1\nevents = [",
-    front: "",
-    piece: "",
-    times: 0,
-    back: "",
-    closing: "]\n",
-    tables: "",
-    wires: "",
-    more: "",
-    is_hexadecimal: false,
-    others: &[],
-    second: None,
-    shelf_fails: 0,
-    sink_fails: 0,
-    room: 20_000,
-    status: 0,
-    entries: None,
-    taken: Taken::Whole(""),
-    told: "",
-};
+// The sections before the piece of the file, and those behind the back of it.
+static FRONTS: [&str; 2] = ["\n: opening ", "\n: front "];
 
-/// A decoding of no octets, in a sound surrounding, that is done.
-pub const DECODE: Case = Case {
-    words: "decode f",
-    opening: "",
-    closing: "",
-    is_hexadecimal: true,
-    entries: Some(0),
-    ..REPLAY
-};
+static LINES: [&str; 4] = ["\n: closing ", "\n: tables\n", "\n: wires\n", "\n: more\n"];
+
+// The captures that a shelf may hold, and their sections.
+static CAPTURES: [(&str, &str); 4] = [
+    ("g.pcap", "\n: g.pcap"),
+    ("k.pcap", "\n: k.pcap"),
+    ("q.pcap", "\n: q.pcap"),
+    ("r.pcap", "\n: r.pcap"),
+];
+
+/// The section of a text whose mark is this one.
+pub fn section<'a>(text: &'a str, mark: &str) -> Option<&'a str> {
+    let (_, rest) = text.split_once(mark)?;
+    match rest.split_once("\n: ") {
+        Some((value, _)) => Some(value),
+        None => Some(rest),
+    }
+}
+
+// The section of a row, or of what lies around it.
+fn text_in<'a>(row: &Row<'a>, mark: &str) -> Option<&'a str> {
+    section(row.text, mark)
+        .or(section(row.head, mark))
+        .or(section(row.given, mark))
+}
+
+// The same, empty where there is none.
+fn text_of<'a>(row: &Row<'a>, mark: &str) -> &'a str {
+    text_in(row, mark).unwrap_or("")
+}
+
+// The number of a section, or this one where there is none.
+fn number_of(rt: &impl Abort, row: &Row<'_>, mark: &str, other: usize) -> usize {
+    match text_in(row, mark) {
+        Some(number) => number.trim().parse::<usize>().ok().expect(rt, "a number"),
+        None => other,
+    }
+}
 
 // The numbers of the calls that fail.
 fn failing(rt: &impl Abort, alloc: Global, number: u64) -> List<u64> {
@@ -143,14 +126,12 @@ pub fn sink_of(rt: &impl Abort, alloc: Global, room: usize, fails: u64) -> MemSi
     MemSink::new(alloc, room, failing(rt, alloc, fails)).expect(rt, "memory")
 }
 
-// Words that are parted by blanks.
-fn words_of(rt: &impl Abort, alloc: Global, words: &str) -> Vec<String> {
-    let mut given = Vec::new(alloc);
+// Puts words that are parted by blanks.
+fn put_words(rt: &impl Abort, alloc: Global, given: &mut Vec<String>, words: &str) {
     for word in words.split_whitespace() {
         let word = String::from_str(alloc, word).expect(rt, "memory");
         given.push(word).expect(rt, "memory");
     }
-    given
 }
 
 // The value of a hexadecimal digit.
@@ -162,11 +143,11 @@ fn nibble(digit: u8) -> u8 {
     }
 }
 
-// Puts the octets of pairs of hexadecimal digits; blanks are passed over.
+// Puts the octets of pairs of hexadecimal digits; blanks and ends of lines are passed over.
 fn put_octets(rt: &impl Abort, octets: &mut Vec<u8>, text: &str) {
     let mut high = None;
     for digit in text.as_bytes() {
-        if *digit != b' ' {
+        if *digit > b' ' {
             match high {
                 None => high = Some(nibble(*digit)),
                 Some(front) => {
@@ -181,8 +162,8 @@ fn put_octets(rt: &impl Abort, octets: &mut Vec<u8>, text: &str) {
 }
 
 // Puts a text into the octets of a file.
-fn put(rt: &impl Abort, octets: &mut Vec<u8>, case: &Case, text: &str) {
-    if case.is_hexadecimal {
+fn put(rt: &impl Abort, octets: &mut Vec<u8>, text: &str, is_hexadecimal: bool) {
+    if is_hexadecimal {
         put_octets(rt, octets, text);
     } else {
         octets
@@ -191,52 +172,97 @@ fn put(rt: &impl Abort, octets: &mut Vec<u8>, case: &Case, text: &str) {
     }
 }
 
-// The octets of the file.
-fn file_of(rt: &impl Abort, alloc: Global, case: &Case, front: &str) -> Vec<u8> {
-    let mut octets = Vec::new(alloc);
-    put(rt, &mut octets, case, case.opening);
-    put(rt, &mut octets, case, front);
-    for _time in 0..case.times {
-        put(rt, &mut octets, case, case.piece);
+// Puts the file up to its back.
+fn put_front(rt: &impl Abort, octets: &mut Vec<u8>, row: &Row<'_>) {
+    let is_hexadecimal = text_in(row, "\n: hexadecimal").is_some();
+    for mark in FRONTS.as_slice() {
+        put(rt, octets, text_of(row, mark), is_hexadecimal);
     }
-    put(rt, &mut octets, case, case.back);
-    put(rt, &mut octets, case, case.closing);
-    put(rt, &mut octets, case, case.tables);
-    put(rt, &mut octets, case, case.wires);
-    put(rt, &mut octets, case, case.more);
+    let piece = text_of(row, "\n: piece ");
+    for _time in 0..number_of(rt, row, "\n: times ", 0) {
+        put(rt, octets, piece, is_hexadecimal);
+    }
+    put(rt, octets, text_of(row, "\n: back "), is_hexadecimal);
+}
+
+// Puts the lines behind the back of the file.
+fn put_lines(rt: &impl Abort, octets: &mut Vec<u8>, row: &Row<'_>) {
+    for mark in LINES.as_slice() {
+        if let Some(lines) = text_in(row, mark) {
+            put(rt, octets, "\n", false);
+            put(rt, octets, lines, false);
+        }
+    }
+}
+
+// The octets of the file.
+fn file_of(rt: &impl Abort, alloc: Global, row: &Row<'_>) -> Vec<u8> {
+    let mut octets = Vec::new(alloc);
+    put_front(rt, &mut octets, row);
+    put_lines(rt, &mut octets, row);
     octets
 }
 
-// Lets a shelf hold the octets of pairs of hexadecimal digits.
-fn hold(rt: &impl Abort, alloc: Global, shelf: &mut MemShelf, name: &str, text: &str) {
+// Octets of pairs of hexadecimal digits.
+fn octets_of(rt: &impl Abort, alloc: Global, text: &str) -> Vec<u8> {
     let mut octets = Vec::new(alloc);
     put_octets(rt, &mut octets, text);
-    shelf
-        .store(alloc, name, octets.as_slice())
-        .expect(rt, "memory");
+    octets
 }
 
-// The shelf that holds the file, the others and the second one.
-fn case_shelf(rt: &impl Abort, alloc: Global, case: &Case, front: &str) -> MemShelf {
-    let octets = file_of(rt, alloc, case, front);
-    let mut shelf = shelf_of(rt, alloc, octets.as_slice(), case.shelf_fails);
-    for (name, text) in case.others {
-        hold(rt, alloc, &mut shelf, name, text);
+// Lets a shelf hold octets.
+fn hold(rt: &impl Abort, alloc: Global, shelf: &mut MemShelf, name: &str, octets: &[u8]) {
+    shelf.store(alloc, name, octets).expect(rt, "memory");
+}
+
+// Lets a shelf hold a capture, of pairs of hexadecimal digits.
+fn hold_capture(rt: &impl Abort, alloc: Global, shelf: &mut MemShelf, name: &str, text: &str) {
+    let octets = octets_of(rt, alloc, text);
+    hold(rt, alloc, shelf, name, octets.as_slice());
+    drop(octets);
+}
+
+// Lets the shelf hold what it holds beside the file.
+fn hold_others(rt: &impl Abort, alloc: Global, shelf: &mut MemShelf, row: &Row<'_>) {
+    for (name, mark) in CAPTURES.as_slice() {
+        if let Some(text) = text_in(row, mark) {
+            hold_capture(rt, alloc, shelf, name, text);
+        }
     }
-    if let Some(text) = case.second {
-        shelf
-            .store(alloc, "s", text.as_bytes())
-            .expect(rt, "memory");
+    if let Some(text) = text_in(row, "\n: s\n") {
+        hold(rt, alloc, shelf, "s", text.as_bytes());
     }
+}
+
+// The shelf that holds the file alone.
+fn file_shelf(rt: &impl Abort, alloc: Global, row: &Row<'_>) -> MemShelf {
+    let octets = file_of(rt, alloc, row);
+    let fails = number_of(rt, row, "\n: shelf ", 0);
+    let shelf = shelf_of(rt, alloc, octets.as_slice(), fails as u64);
+    drop(octets);
     shelf
+}
+
+// Runs the words over a shelf and a sink.
+fn finish_over(
+    rt: &impl Abort,
+    alloc: Global,
+    words: &str,
+    shelf: &mut MemShelf,
+    sink: &mut MemSink,
+) -> Finish {
+    let mut given = Vec::new(alloc);
+    put_words(rt, alloc, &mut given, words);
+    let finish = run(alloc, given.as_slice(), shelf, sink);
+    drop(given);
+    finish
 }
 
 // Runs the words over the shelf and this sink.
-fn finish_of(rt: &impl Abort, alloc: Global, case: &Case, row: &Row, sink: &mut MemSink) -> Finish {
-    let mut shelf = case_shelf(rt, alloc, case, row.front);
-    let words = words_of(rt, alloc, row.words);
-    let finish = run(alloc, words.as_slice(), &mut shelf, sink);
-    drop(words);
+fn finish_of(rt: &impl Abort, alloc: Global, row: &Row<'_>, sink: &mut MemSink) -> Finish {
+    let mut shelf = file_shelf(rt, alloc, row);
+    hold_others(rt, alloc, &mut shelf, row);
+    let finish = finish_over(rt, alloc, text_of(row, "\n: words "), &mut shelf, sink);
     drop(shelf);
     finish
 }
@@ -248,54 +274,32 @@ fn ends_with(octets: &[u8], front: &str, back: &str) -> bool {
 }
 
 // Whether octets are those of pairs of hexadecimal digits.
-fn are_octets(octets: &[u8], text: &str) -> bool {
-    let text = text.as_bytes();
-    let mut same = text.len() == 2 * octets.len();
-    for (place, octet) in octets.iter().enumerate() {
-        let at = place.saturating_mul(2);
-        same = same && text.get(at) == Some(&digit(octet >> 4));
-        same = same && text.get(at.saturating_add(1)) == Some(&digit(octet & 15));
-    }
+fn are_octets(rt: &impl Abort, alloc: Global, octets: &[u8], text: &str) -> bool {
+    let want = octets_of(rt, alloc, text);
+    let same = octets == want.as_slice();
+    drop(want);
     same
 }
 
-// A hexadecimal digit.
-fn digit(value: u8) -> u8 {
-    match value {
-        0..=9 => b'0' + value,
-        10..=15 => b'a' + (value - 10),
-        _ => b'?',
-    }
+// Whether octets are a text, or its front where there is no room for more.
+fn are_text(octets: &[u8], text: &str, room: usize) -> bool {
+    octets.len() == text.len().min(room) && text.as_bytes().starts_with(octets)
 }
 
-// What stands behind a line and its end, where octets begin with them.
-fn behind_line<'a>(octets: &'a [u8], line: &str) -> Option<&'a [u8]> {
-    octets
-        .strip_prefix(line.as_bytes())?
-        .strip_prefix(b"\n".as_slice())
-}
-
-// Whether octets are these lines.
-fn are_lines(octets: &[u8], lines: &str) -> bool {
-    let mut rest = octets;
-    for line in lines.split(" / ") {
-        match behind_line(rest, line) {
-            Some(more) => rest = more,
-            None => return false,
-        }
-    }
-    rest.is_empty()
+// Whether octets are as many as they have to be, and end as they have to.
+fn are_end(rt: &impl Abort, octets: &[u8], row: &Row<'_>, end: &str) -> bool {
+    let count = number_of(rt, row, "\n: long ", octets.len());
+    octets.len() == count && ends_with(octets, text_of(row, "\n: begins\n"), end)
 }
 
 // Whether the sink took what it has to take.
-fn is_taken(octets: &[u8], taken: Taken) -> bool {
-    match taken {
-        Taken::Whole(text) => octets == text.as_bytes(),
-        Taken::Octets(text) => are_octets(octets, text),
-        Taken::Front(text, count) => octets.len() == count && text.as_bytes().starts_with(octets),
-        Taken::Ends(front, back) => ends_with(octets, front, back),
-        Taken::Long(count, back) => octets.len() == count && octets.ends_with(back.as_bytes()),
-        Taken::Lines(lines) => are_lines(octets, lines),
+fn is_taken(rt: &impl Abort, alloc: Global, octets: &[u8], row: &Row<'_>, room: usize) -> bool {
+    if let Some(end) = text_in(row, "\n: ends\n") {
+        are_end(rt, octets, row, end)
+    } else if let Some(text) = text_in(row, "\n: octets ") {
+        are_octets(rt, alloc, octets, text)
+    } else {
+        are_text(octets, text_of(row, "\n: taken\n"), room)
     }
 }
 
@@ -308,26 +312,24 @@ fn is_told(rt: &impl Abort, alloc: Global, outcome: &Outcome, told: &str) -> boo
     line.as_slice() == told.as_bytes()
 }
 
-// What of the status, the outcome and the sink is not as the row has it; empty where all is. The sink counts a fault exactly where the
-// writing failed.
-fn difference(
-    rt: &impl Abort,
-    alloc: Global,
-    row: &Row,
-    status: u8,
-    outcome: &Outcome,
-    sink: &MemSink,
-) -> &'static str {
-    if status != row.status {
+// The status and the line on standard error that a row has.
+fn told_of<'a>(rt: &impl Abort, row: &Row<'a>) -> (u8, &'a str) {
+    match text_of(row, "\n: told ").trim_end().split_once(' ') {
+        Some((status, told)) => (status.parse::<u8>().ok().expect(rt, "a status"), told),
+        None => (0, ""),
+    }
+}
+
+// What of the status, the entries and the line on standard error is not as the row has it; empty where all is.
+fn difference(rt: &impl Abort, alloc: Global, row: &Row<'_>, finish: &Finish) -> &'static str {
+    let (status, told) = told_of(rt, row);
+    let entries = finish.trace().len();
+    if finish.status != status {
         "status"
-    } else if !is_taken(sink.taken(), row.taken) {
-        "taken"
-    } else if matches!(outcome, Outcome::Done) != row.told.is_empty() {
-        "kind"
-    } else if !is_told(rt, alloc, outcome, row.told) {
+    } else if !is_told(rt, alloc, &finish.outcome, told) {
         "told"
-    } else if sink.faults() != u64::from(row.status == 4) {
-        "faults"
+    } else if number_of(rt, row, "\n: entries ", entries) != entries {
+        "entries"
     } else {
         ""
     }
@@ -347,100 +349,105 @@ fn let_go(finish: Finish) {
     }
 }
 
-// What is not as the case and the row have it where the call ends, with this sink.
+// The status of a call of a row, and what of how it ends is not as the row has it, with this sink.
+fn end_with(
+    rt: &impl Abort,
+    alloc: Global,
+    row: &Row<'_>,
+    sink: &mut MemSink,
+) -> (u8, &'static str) {
+    let finish = finish_of(rt, alloc, row, sink);
+    let status = finish.status;
+    let difference = difference(rt, alloc, row, &finish);
+    let_go(finish);
+    (status, difference)
+}
+
+// What is not as the row has it where the call ends, with this sink of this room. The sink counts a fault exactly where the writing
+// failed.
 fn difference_with(
     rt: &impl Abort,
     alloc: Global,
-    case: &Case,
-    row: &Row,
+    row: &Row<'_>,
+    room: usize,
     sink: &mut MemSink,
 ) -> &'static str {
-    let finish = finish_of(rt, alloc, case, row, sink);
-    let entries = finish.trace().len();
-    let difference = if case.entries.unwrap_or(entries) == entries {
-        difference(rt, alloc, row, finish.status, &finish.outcome, sink)
+    let (status, difference) = end_with(rt, alloc, row, sink);
+    if !is_taken(rt, alloc, sink.taken(), row, room) {
+        "taken"
+    } else if sink.faults() != u64::from(status == 4) {
+        "faults"
     } else {
-        "entries"
-    };
-    let_go(finish);
-    difference
+        difference
+    }
 }
 
 // The call of a row ends as it has to, where the sink has this room.
-fn row_plays(rt: &impl Abort, alloc: Global, case: &Case, room: usize, row: &Row) {
-    let mut sink = sink_of(rt, alloc, room, case.sink_fails);
-    let difference = difference_with(rt, alloc, case, row, &mut sink);
+fn row_plays_in(rt: &impl Abort, alloc: Global, row: &Row<'_>, room: usize) {
+    let fails = number_of(rt, row, "\n: sink ", 0);
+    let mut sink = sink_of(rt, alloc, room, fails as u64);
+    let difference = difference_with(rt, alloc, row, room, &mut sink);
     drop(sink);
-    assert!(rt;
-        difference.is_empty(),
-        "{difference}: {}: {}",
-        row.words,
-        row.front
-    );
+    assert!(rt; difference.is_empty(), "{difference}: {}", row.text);
 }
 
-/// The call ends as it has to, where the sink has this room and has to take this.
-pub fn plays_in(rt: &impl Abort, alloc: Global, case: &Case, room: usize, taken: Taken) {
+// The call of a row ends as it has to.
+fn row_plays(rt: &impl Abort, alloc: Global, row: &Row<'_>) {
+    row_plays_in(rt, alloc, row, number_of(rt, row, "\n: room ", 20_000));
+}
+
+/// The call of this one row ends as it has to, where the sink has this room.
+pub fn plays_in(rt: &impl Abort, alloc: Global, given: &str, text: &str, room: usize) {
     let row = Row {
-        words: case.words,
-        front: case.front,
-        status: case.status,
-        taken,
-        told: case.told,
+        text,
+        head: "",
+        given,
     };
-    row_plays(rt, alloc, case, room, &row);
+    row_plays_in(rt, alloc, &row, room);
 }
 
-/// The call ends as it has to.
-pub fn plays(rt: &impl Abort, alloc: Global, case: &Case) {
-    plays_in(rt, alloc, case, case.room, case.taken);
-}
-
-/// Each of these calls ends as it has to.
-pub fn all_play(rt: &impl Abort, alloc: Global, cases: &[Case]) {
-    for case in cases {
-        plays(rt, alloc, case);
+/// The call of each row of a sheet ends as it has to.
+pub fn plays(rt: &impl Abort, alloc: Global, given: &str, sheet: &str) {
+    let sheet = sheet.strip_suffix("\n").expect(rt, "an end of a line");
+    let (head, rows) = sheet.split_once("\n= ").expect(rt, "a row");
+    for text in rows.split("\n= ") {
+        row_plays(rt, alloc, &Row { text, head, given });
     }
 }
 
-// The row whose call and ending are these words; without a status it is of a call that is done.
-fn row_in(rt: &impl Abort, case: &Case, call: &'static str, ending: &'static str) -> Row {
-    let (words, front) = match call.strip_prefix("$ ") {
-        Some(words) => (words, case.front),
-        None => (case.words, call),
+// The text of the row that a line of a table stands for.
+fn row_text(rt: &impl Abort, alloc: Global, call: &str, ending: &str) -> String {
+    let (given, call) = match call.strip_prefix("$ ") {
+        Some(words) => ("words", words),
+        None => ("front", call),
     };
-    let (lines, end) = match ending.split_once("! ") {
-        Some(parts) => parts,
-        None => (ending, ""),
+    let (wanted, ending) = match ending.strip_prefix("! ") {
+        Some(told) => ("entries 0\n: told ", told),
+        None => ("taken\n", ending),
     };
-    let (status, told) = match end.split_once(' ') {
-        Some((status, told)) => (status.parse::<u8>().ok().expect(rt, "a status"), told),
-        None => (0, ""),
-    };
-    let taken = match lines.trim() {
-        "" => Taken::Whole(""),
-        lines => Taken::Lines(lines),
-    };
-    Row {
-        words,
-        front,
-        status,
-        taken,
-        told,
-    }
+    format!(in alloc; "\n: {given} {call}\n: {wanted}{ending}\n").expect(rt, "memory")
 }
 
-/// Each call of a table ends as it has to. A row has what stands in the place of the front of a case or, behind `$ `, of its words; then,
-/// behind ` -> `, the lines that the sink takes, which ` / ` parts, and behind `! ` the status and the line on standard error. Lines that
-/// end in a full stop are words for a reader.
-pub fn rows_play(rt: &impl Abort, alloc: Global, case: &Case, table: &'static str) {
+// The call of a line of a table ends as it has to.
+fn line_plays(rt: &impl Abort, alloc: Global, given: &str, call: &str, ending: &str) {
+    let text = row_text(rt, alloc, call, ending);
+    let row = Row {
+        text: text.as_str(),
+        head: "",
+        given,
+    };
+    row_plays(rt, alloc, &row);
+    drop(text);
+}
+
+/// Each call of a table ends as it has to. A line has what stands in the section `front` or, behind `$ `, in that of the words; then,
+/// behind ` -> `, the line that the sink takes, or behind `! `, where no run begins, the status and the line on standard error. Lines
+/// that end in a full stop are words for a reader.
+pub fn lines_play(rt: &impl Abort, alloc: Global, given: &str, table: &str) {
     for line in table.lines() {
         let line = line.trim();
         match line.split_once(" -> ") {
-            Some((call, ending)) => {
-                let row = row_in(rt, case, call, ending);
-                row_plays(rt, alloc, case, case.room, &row);
-            }
+            Some((call, ending)) => line_plays(rt, alloc, given, call, ending),
             None => assert!(rt; line.is_empty() || line.ends_with('.'), "{line}"),
         }
     }

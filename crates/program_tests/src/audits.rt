@@ -1,99 +1,91 @@
 //! The command `audit`: reports in which one thing is wrong each, and what is refused before.
 
-use crate::around::{Case, REPLAY, Taken, all_play, plays, rows_play};
+use crate::around::{lines_play, plays};
 
-// An edge with two circuits of one service and one of another.
-const PLAN: &str = "edge = [{ name = \"a\", address = \"10.0.0.1\" }]
-service = [{ name = \"s\" }, { name = \"t\" }]
+// An edge with two circuits of one service and one of another, and a report that meets all rules. The events of the scenario are others,
+// and it plays a capture that is not there.
+const AUDIT: &str = r#"
+: words audit f s
+: opening version = 2
+events = ["tick", "play c1 k"
+: closing ]
+: tables
+edge = [{ name = "a", address = "10.0.0.1" }]
+service = [{ name = "s" }, { name = "t" }]
 [[circuit]]
-name = \"c1\"
-edge = \"a\"
-service = \"s\"
+name = "c1"
+edge = "a"
+service = "s"
 [[circuit]]
-name = \"c2\"
-edge = \"a\"
-service = \"t\"
+name = "c2"
+edge = "a"
+service = "t"
 [[circuit]]
-name = \"c3\"
-edge = \"a\"
-service = \"s\"
-";
-
-// Three edges in a row, with a mesh wire from each to the next one.
-const ROW: &str =
-    "edge = [{ name = \"a\", address = \"10.0.0.1\" }, { name = \"b\", address = \"10.0.0.2\" }, { name = \"c\", address = \"10.0.0.3\" }]
-service = [{ name = \"s\" }]
-[[wire]]
-name = \"u\"
-service = \"s\"
-class = \"mesh\"
-path = [\"a\", \"b\"]
-pw_id = 1
-[[wire]]
-name = \"v\"
-service = \"s\"
-class = \"mesh\"
-path = [\"b\", \"c\"]
-pw_id = 2
-";
-
-// Two core edges and a spoke edge with a spoke to each, and a circuit at the spoke edge and at one core edge.
-const SPOKES: &str =
-    "edge = [{ name = \"a\", address = \"10.0.0.1\" }, { name = \"b\", address = \"10.0.0.2\" }, { name = \"x\", address = \"10.0.0.3\" }]
-service = [{ name = \"s\" }]
-circuit = [{ name = \"cx\", edge = \"x\", service = \"s\" }, { name = \"ca\", edge = \"a\", service = \"s\" }]
-[[wire]]
-name = \"m\"
-service = \"s\"
-class = \"mesh\"
-path = [\"a\", \"b\"]
-pw_id = 1
-[[wire]]
-name = \"u\"
-service = \"s\"
-class = \"spoke\"
-path = [\"x\", \"a\"]
-pw_id = 2
-[[wire]]
-name = \"v\"
-service = \"s\"
-class = \"spoke\"
-path = [\"x\", \"b\"]
-pw_id = 3
-";
-
-const REPORT: &str = "vplsnet 1
+name = "c3"
+edge = "a"
+service = "s"
+: s
+vplsnet 1
 > frame c1 ffffffffffff02000000000188b5aa
 in c1 1 ffffffffffff02000000000188b5aa
 left c3 1 0 ffffffffffff02000000000188b5aa
 end events=1 in=1 left=1 sent=0 dropped=0
+
+: entries 0
+"#;
+
+const GOOD: &str = "
+: taken
+audit yes
+
+= A report that meets all rules.
+= No events.
+: s
+vplsnet 1
+end events=0 in=0 left=0 sent=0 dropped=0
+
+= A run that a limit stopped.
+: s
+vplsnet 1
+stop Crowded 65536
+
 ";
 
-// A report that meets all rules. The events of the scenario are others, and it plays a capture that is not there.
-const AUDIT: Case = Case {
-    words: "audit f s",
-    opening: "version = 2\nevents = [\"tick\", \"play c1 k\"",
-    tables: PLAN,
-    second: Some(REPORT),
-    entries: Some(0),
-    taken: Taken::Whole("audit yes\n"),
-    ..REPLAY
-};
+// Two core edges and a spoke edge with a spoke to each, and a circuit at the spoke edge and at one core edge.
+const SPOKES: &str = r#"
+: words audit f s
+: opening version = 2
+events = [
+: closing ]
+: tables
+edge = [{ name = "a", address = "10.0.0.1" }, { name = "b", address = "10.0.0.2" }, { name = "x", address = "10.0.0.3" }]
+service = [{ name = "s" }]
+circuit = [{ name = "cx", edge = "x", service = "s" }, { name = "ca", edge = "a", service = "s" }]
+[[wire]]
+name = "m"
+service = "s"
+class = "mesh"
+path = ["a", "b"]
+pw_id = 1
+[[wire]]
+name = "u"
+service = "s"
+class = "spoke"
+path = ["x", "a"]
+pw_id = 2
+[[wire]]
+name = "v"
+service = "s"
+class = "spoke"
+path = ["x", "b"]
+pw_id = 3
+: entries 0
+"#;
 
-const REFUSED: Case = Case {
-    status: 6,
-    taken: Taken::Whole(""),
-    ..AUDIT
-};
-
-static GOOD: [Case; 4] = [
-    AUDIT,
-    // Both spokes of the spoke edge carry frames, so the service is not calm, and a frame need not leave anywhere.
-    Case {
-        opening: "version = 2\nevents = [",
-        tables: SPOKES,
-        second: Some(
-            "vplsnet 1
+const BOTH_SPOKES: &str = "
+= Both spokes of the spoke edge carry frames, so the service is not calm, and a frame need not leave anywhere.
+: s
+vplsnet 1
 > connect a b
 session a b Initialized
 session b a Initialized
@@ -112,74 +104,16 @@ wire b v up
 > frame cx ffffffffffff02000000000188b5aa
 in cx 1 ffffffffffff02000000000188b5aa
 end events=4 in=1 left=0 sent=0 dropped=0
-",
-        ),
-        ..AUDIT
-    },
-    Case {
-        second: Some("vplsnet 1\nend events=0 in=0 left=0 sent=0 dropped=0\n"),
-        ..AUDIT
-    },
-    // A run that a limit stopped.
-    Case {
-        second: Some("vplsnet 1\nstop Crowded 65536\n"),
-        ..AUDIT
-    },
-];
 
-// No report of this plan.
-static FORMLESS: [Case; 4] = [
-    Case {
-        second: Some(""),
-        told: "vplsnet: audit: 1 Form",
-        ..REFUSED
-    },
-    // A circuit that the plan lacks.
-    Case {
-        second: Some(
-            "vplsnet 1
-> frame c4 ffffffffffff02000000000188b5aa
-end events=1 in=0 left=0 sent=0 dropped=0
-",
-        ),
-        told: "vplsnet: audit: 2 Form",
-        ..REFUSED
-    },
-    // A wrong count.
-    Case {
-        second: Some(
-            "vplsnet 1
-> frame c1 ffffffffffff02000000000188b5aa
-in c1 1 ffffffffffff02000000000188b5aa
-left c3 1 0 ffffffffffff02000000000188b5aa
-end events=1 in=1 left=2 sent=0 dropped=0
-",
-        ),
-        told: "vplsnet: audit: 5 Form",
-        ..REFUSED
-    },
-    // The form is judged first: a frame leaves a circuit of the other service, and the last line is none.
-    Case {
-        second: Some(
-            "vplsnet 1
-> frame c1 ffffffffffff02000000000188b5aa
-in c1 1 ffffffffffff02000000000188b5aa
-left c2 1 0 ffffffffffff02000000000188b5aa
-",
-        ),
-        told: "vplsnet: audit: 5 Form",
-        ..REFUSED
-    },
-];
+: taken
+audit yes
 
-// A rule fails.
-static BROKEN: [Case; 5] = [
-    // One spoke of the spoke edge carries frames, so the service is calm, and a frame has to leave the other circuit.
-    Case {
-        opening: "version = 2\nevents = [",
-        tables: SPOKES,
-        second: Some(
-            "vplsnet 1
+";
+
+const ONE_SPOKE: &str = "
+= One spoke of the spoke edge carries frames, so the service is calm, and a frame has to leave the other circuit.
+: s
+vplsnet 1
 > connect a b
 session a b Initialized
 session b a Initialized
@@ -197,66 +131,98 @@ wire x v up
 > frame cx ffffffffffff02000000000188b5aa
 in cx 1 ffffffffffff02000000000188b5aa
 end events=4 in=1 left=0 sent=0 dropped=0
-",
-        ),
-        told: "vplsnet: audit: 17 Once",
-        ..REFUSED
-    },
-    // A frame leaves a circuit of the other service, and not that of its own.
-    Case {
-        second: Some(
-            "vplsnet 1
+
+: told 6 vplsnet: audit: 17 Once
+";
+
+// No report of this plan.
+const FORMLESS: &str = "
+= A text without a line.
+: s
+
+: told 6 vplsnet: audit: 1 Form
+= A circuit that the plan lacks.
+: s
+vplsnet 1
+> frame c4 ffffffffffff02000000000188b5aa
+end events=1 in=0 left=0 sent=0 dropped=0
+
+: told 6 vplsnet: audit: 2 Form
+= A wrong count.
+: s
+vplsnet 1
+> frame c1 ffffffffffff02000000000188b5aa
+in c1 1 ffffffffffff02000000000188b5aa
+left c3 1 0 ffffffffffff02000000000188b5aa
+end events=1 in=1 left=2 sent=0 dropped=0
+
+: told 6 vplsnet: audit: 5 Form
+= The form is judged first: a frame leaves a circuit of the other service, and the last line is none.
+: s
+vplsnet 1
+> frame c1 ffffffffffff02000000000188b5aa
+in c1 1 ffffffffffff02000000000188b5aa
+left c2 1 0 ffffffffffff02000000000188b5aa
+
+: told 6 vplsnet: audit: 5 Form
+";
+
+// A rule fails.
+const BROKEN: &str = r#"
+= A frame leaves a circuit of the other service, and not that of its own.
+: s
+vplsnet 1
 > frame c1 ffffffffffff02000000000188b5aa
 in c1 1 ffffffffffff02000000000188b5aa
 left c2 1 0 ffffffffffff02000000000188b5aa
 end events=1 in=1 left=1 sent=0 dropped=0
-",
-        ),
-        told: "vplsnet: audit: 4 Isolated",
-        ..REFUSED
-    },
-    // The edge in the middle sends what came by one mesh wire out by the other one.
-    Case {
-        opening: "version = 2\nevents = [",
-        tables: ROW,
-        second: Some(
-            "vplsnet 1
+
+: told 6 vplsnet: audit: 4 Isolated
+= The edge in the middle sends what came by one mesh wire out by the other one.
+: opening version = 2
+events = [
+: tables
+edge = [{ name = "a", address = "10.0.0.1" }, { name = "b", address = "10.0.0.2" }, { name = "c", address = "10.0.0.3" }]
+service = [{ name = "s" }]
+[[wire]]
+name = "u"
+service = "s"
+class = "mesh"
+path = ["a", "b"]
+pw_id = 1
+[[wire]]
+name = "v"
+service = "s"
+class = "mesh"
+path = ["b", "c"]
+pw_id = 2
+: s
+vplsnet 1
 > arrive 1
 sent 2 b c v u 1 2 000101ff00000000
 end events=1 in=0 left=0 sent=1 dropped=0
-",
-        ),
-        told: "vplsnet: audit: 3 Split",
-        ..REFUSED
-    },
-    // A flooded frame does not leave the other circuit of its service.
-    Case {
-        second: Some(
-            "vplsnet 1
+
+: told 6 vplsnet: audit: 3 Split
+= A flooded frame does not leave the other circuit of its service.
+: s
+vplsnet 1
 > frame c1 ffffffffffff02000000000188b5aa
 in c1 1 ffffffffffff02000000000188b5aa
 end events=1 in=1 left=0 sent=0 dropped=0
-",
-        ),
-        told: "vplsnet: audit: 3 Once",
-        ..REFUSED
-    },
-    // It leaves it twice.
-    Case {
-        second: Some(
-            "vplsnet 1
+
+: told 6 vplsnet: audit: 3 Once
+= It leaves it twice.
+: s
+vplsnet 1
 > tick
 > frame c1 ffffffffffff02000000000188b5aa
 in c1 1 ffffffffffff02000000000188b5aa
 left c3 1 0 ffffffffffff02000000000188b5aa
 left c3 1 0 ffffffffffff02000000000188b5aa
 end events=2 in=1 left=2 sent=0 dropped=0
-",
-        ),
-        told: "vplsnet: audit: 4 Once",
-        ..REFUSED
-    },
-];
+
+: told 6 vplsnet: audit: 4 Once
+"#;
 
 const USAGE_ROWS: &str = "
     $ audit f -> ! 2 vplsnet: usage
@@ -264,124 +230,92 @@ const USAGE_ROWS: &str = "
     $ audit f -s -> ! 2 vplsnet: usage
 ";
 
-// The scenario is read first, and refused before the report is read or judged.
-static BEFORE: [Case; 4] = [
-    Case {
-        words: "audit g s",
-        second: Some(""),
-        status: 3,
-        told: "vplsnet: read fault",
-        ..REFUSED
-    },
-    Case {
-        shelf_fails: 1,
-        second: Some(""),
-        status: 3,
-        told: "vplsnet: read fault",
-        ..REFUSED
-    },
-    Case {
-        opening: "version = 3\nevents = [",
-        second: Some(""),
-        status: 5,
-        told: "vplsnet: scenario: Version",
-        ..REFUSED
-    },
-    Case {
-        opening: "version = 3\nevents = [",
-        second: None,
-        status: 5,
-        told: "vplsnet: scenario: Version",
-        ..REFUSED
-    },
-];
+// The scenario is read first, and refused before the report is read or judged. Nothing is written but for a front.
+const REFUSED: &str = "
+= The scenario is not there.
+: words audit g s
+: told 3 vplsnet: read fault
+= A call that reads the scenario fails.
+: shelf 1
+: told 3 vplsnet: read fault
+= The scenario is refused, and the report is no report.
+: opening version = 3
+events = [
+: s
 
-// The report is not there, a call that reads it fails, or a call of the sink, which took a front before.
-static FAILED: [Case; 4] = [
-    Case {
-        second: None,
-        status: 3,
-        told: "vplsnet: read fault",
-        ..REFUSED
-    },
-    Case {
-        shelf_fails: 3,
-        second: Some(""),
-        status: 3,
-        told: "vplsnet: read fault",
-        ..REFUSED
-    },
-    Case {
-        sink_fails: 1,
-        status: 4,
-        told: "vplsnet: write fault",
-        ..REFUSED
-    },
-    Case {
-        room: 5,
-        status: 4,
-        taken: Taken::Whole("audit"),
-        told: "vplsnet: write fault",
-        ..AUDIT
-    },
-];
+: told 5 vplsnet: scenario: Version
+= The scenario is refused, and the report is not there.
+: words audit f x
+: opening version = 3
+events = [
+: told 5 vplsnet: scenario: Version
+= The report is not there.
+: words audit f x
+: told 3 vplsnet: read fault
+= A call that reads the report fails.
+: shelf 3
+: told 3 vplsnet: read fault
+= The call of the sink fails.
+: sink 1
+: told 4 vplsnet: write fault
+= The sink takes a front.
+: room 5
+: told 4 vplsnet: write fault
+: taken
+audit yes
 
-const SCENARIO: &str =
-    "version = 2\nevents = []\nedge = [{ name = \"a\", address = \"10.0.0.1\" }]\n";
+";
 
 // A file of 64 octets so many times, and then an octet.
-const LONG: Case = Case {
-    opening: "",
-    piece: "################################\
-        ###############################\n",
-    back: "#",
-    closing: "",
-    tables: "",
-    status: 5,
-    ..REFUSED
-};
+const LONG: &str = "
+: piece ###############################################################
 
-// A scenario of 8,388,609 octets.
-static LONG_SCENARIO: Case = Case {
-    times: 131_072,
-    second: None,
-    told: "vplsnet: f is longer than 8388608",
-    ..LONG
-};
+: back #
+: entries 0
+";
 
-// A report of 67,108,865 octets, behind a scenario.
-static LONG_REPORT: Case = Case {
-    words: "audit s f",
-    times: 1_048_576,
-    second: Some(SCENARIO),
-    told: "vplsnet: f is longer than 67108864",
-    ..LONG
-};
+const TOO_LONG: &str = "
+= A scenario of 8,388,609 octets.
+: words audit f s
+: times 131072
+: told 5 vplsnet: f is longer than 8388608
+";
 
-static REFUSAL: Case = REFUSED;
+const LONG_REPORT: &str = r#"
+= A report of 67,108,865 octets, behind a scenario.
+: words audit s f
+: times 1048576
+: s
+version = 2
+events = []
+edge = [{ name = "a", address = "10.0.0.1" }]
+
+: told 5 vplsnet: f is longer than 67108864
+"#;
 
 #[test]
 fn says_yes_to_good_reports(rt: HostRuntime) {
-    all_play(&rt, rt.alloc(), GOOD.as_slice());
+    plays(&rt, rt.alloc(), AUDIT, GOOD);
+    plays(&rt, rt.alloc(), SPOKES, BOTH_SPOKES);
 }
 
 #[test]
 fn tells_the_first_rule_that_fails(rt: HostRuntime) {
-    all_play(&rt, rt.alloc(), FORMLESS.as_slice());
-    all_play(&rt, rt.alloc(), BROKEN.as_slice());
+    plays(&rt, rt.alloc(), AUDIT, FORMLESS);
+    plays(&rt, rt.alloc(), SPOKES, ONE_SPOKE);
+    plays(&rt, rt.alloc(), AUDIT, BROKEN);
 }
 
 #[test]
 fn judges_nothing_else(rt: HostRuntime) {
     let alloc = rt.alloc();
-    rows_play(&rt, alloc, &REFUSAL, USAGE_ROWS);
-    all_play(&rt, alloc, BEFORE.as_slice());
-    all_play(&rt, alloc, FAILED.as_slice());
-    plays(&rt, alloc, &LONG_SCENARIO);
+    lines_play(&rt, alloc, AUDIT, USAGE_ROWS);
+    plays(&rt, alloc, AUDIT, REFUSED);
+    plays(&rt, alloc, LONG, TOO_LONG);
 }
 
 // A test has a minute, so what takes long is a test of its own.
 #[test]
 fn judges_no_report_that_is_too_long(rt: HostRuntime) {
-    plays(&rt, rt.alloc(), &LONG_REPORT);
+    plays(&rt, rt.alloc(), LONG, LONG_REPORT);
 }

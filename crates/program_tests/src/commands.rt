@@ -1,59 +1,59 @@
 //! What the commands beside `replay` write of a run, and what is written where a limit or a fault ends it.
 
-use crate::around::{Case, ONE_EDGE, REPLAY, Taken, all_play, plays, rows_play};
-
-// Two edges, a mesh wire and a circuit at each.
-const TWO: &str = "
-[[edge]]
-name = \"a\"
-address = \"10.0.0.1\"
-[[edge]]
-name = \"b\"
-address = \"10.0.0.2\"
-[[service]]
-name = \"s\"
-[[circuit]]
-name = \"ca\"
-edge = \"a\"
-service = \"s\"
-[[circuit]]
-name = \"cb\"
-edge = \"b\"
-service = \"s\"
-[[wire]]
-name = \"w\"
-service = \"s\"
-class = \"mesh\"
-path = [\"a\", \"b\"]
-pw_id = 100
-";
-
-// Four edges in a chain, and a mesh wire between the outer ones.
-const CHAIN: &str = "
-edge = [
-  { name = \"a\", address = \"10.0.0.1\" },
-  { name = \"b\", address = \"10.0.0.2\" },
-  { name = \"c\", address = \"10.0.0.3\" },
-  { name = \"d\", address = \"10.0.0.4\" },
-]
-service = [{ name = \"s\" }]
-wire = [{ name = \"w\", service = \"s\", class = \"mesh\", pw_id = 100, path = [\"a\", \"b\", \"c\", \"d\"] }]
-";
+use crate::around::{ONE_EDGE, REPLAY, lines_play, plays};
 
 // A broadcast enters at the first circuit.
-const BROADCAST: &str = "\"frame c1 ffffffffffff0200000000010800\"";
+const CAPTURED: &str = r#"
+: words capture f c2
+: front "frame c1 ffffffffffff0200000000010800"
+= The broadcast leaves the circuit.
+: octets d4c3b2a1020004000000000000000000ffff00000100000000000000000000000e0000000e000000ffffffffffff0200000000010800
+= The times of a capture are the ticks before its frames.
+: front "tick", "tick", "frame c1 ffffffffffff0200000000010800"
+: octets d4c3b2a1020004000000000000000000ffff00000100000002000000000000000e0000000e000000ffffffffffff0200000000010800
+= Nothing left the circuit at which the frame entered.
+: words capture f c1
+: octets d4c3b2a1020004000000000000000000ffff000001000000
+"#;
 
-// A header, and a record of the broadcast at second 0, and at second 2.
-const LEFT: &str =
-    "d4c3b2a1020004000000000000000000ffff00000100000000000000000000000e0000000e000000ffffffffffff0200000000010800";
+// The tables of two edges, a mesh wire and a circuit at each.
+const TWO: &str = r#"
+: words tables f
+: opening version = 1
+events = [
+: closing ]
+: tables
+[[edge]]
+name = "a"
+address = "10.0.0.1"
+[[edge]]
+name = "b"
+address = "10.0.0.2"
+[[service]]
+name = "s"
+[[circuit]]
+name = "ca"
+edge = "a"
+service = "s"
+[[circuit]]
+name = "cb"
+edge = "b"
+service = "s"
+[[wire]]
+name = "w"
+service = "s"
+class = "mesh"
+path = ["a", "b"]
+pw_id = 100
+"#;
 
-const LATER: &str =
-    "d4c3b2a1020004000000000000000000ffff00000100000002000000000000000e0000000e000000ffffffffffff0200000000010800";
-
-const HEADER: &str = "d4c3b2a1020004000000000000000000ffff000001000000";
-
-// What is told of a learned address ends with its tick.
-const TABLES: &str = "edge a next=17
+// The third edge of the last row withdraws from the second one, which has not heard of it, the label that it told, and which is its own
+// until it is released. The last edge knows of nothing.
+const TABLED: &str = r#"
+= What is told of a learned address ends with its tick.
+: front "connect a b", "settle 20", "frame ca ffffffffffff0200000000010800", "flow 10"
+: taken
+edge a next=17
 session b Operational
 end w 0 b 16 16 up
 mac s 020000000001 ca 0
@@ -61,19 +61,29 @@ edge b next=17
 session a Operational
 end w 0 a 16 16 up
 mac s 020000000001 w 0
-";
 
-const NO_TABLES: &str = "edge a next=16
+= No session.
+: taken
+edge a next=16
 session b NonExistent
 end w 0 b - - NoLocal
 edge b next=16
 session a NonExistent
 end w 0 a - - NoLocal
-";
 
-// The third edge has lost its session with the last one: it withdraws from the second one, which has not heard of it, the label that it
-// told, and which is its own until it is released. The last edge knows of nothing.
-const WITHDRAWN: &str = "edge a next=17
+= The third of four edges in a chain has lost its session with the last one.
+: front "connect a b", "connect b c", "connect c d", "settle 100", "lose c d"
+: tables
+edge = [
+  { name = "a", address = "10.0.0.1" },
+  { name = "b", address = "10.0.0.2" },
+  { name = "c", address = "10.0.0.3" },
+  { name = "d", address = "10.0.0.4" },
+]
+service = [{ name = "s" }]
+wire = [{ name = "w", service = "s", class = "mesh", pw_id = 100, path = ["a", "b", "c", "d"] }]
+: taken
+edge a next=17
 session b Operational
 end w 0 b 16 17 up
 edge b next=18
@@ -89,68 +99,41 @@ end w 2 d - - open
 edge d next=17
 session c Operational
 end w 2 c 16 16 up
+
+"#;
+
+const REHEARSED: &str = "
+= A rehearsal.
+: words rehearse 1
+: taken
+rehearse 1
+end events=8208 in=2000 left=4155 sent=5844 dropped=0
+
 ";
 
-const CAPTURE: Case = Case {
-    words: "capture f c2",
-    front: BROADCAST,
-    tables: ONE_EDGE,
-    taken: Taken::Octets(LEFT),
-    ..REPLAY
-};
+const UNTAKEN_CAPTURE: &str = r#"
+= The first call of the sink fails, and nothing is taken.
+: words capture f c2
+: front "frame c1 ffffffffffff0200000000010800"
+: sink 1
+: told 4 vplsnet: write fault
+"#;
 
-const TABLED: Case = Case {
-    words: "tables f",
-    tables: TWO,
-    ..REPLAY
-};
+const UNTAKEN_TABLES: &str = "
+= The first call of the sink fails, and nothing is taken.
+: sink 1
+: told 4 vplsnet: write fault
+";
 
-static WRITTEN: [Case; 7] = [
-    CAPTURE,
-    // The times of a capture are the ticks before its frames.
-    Case {
-        front: "\"tick\", \"tick\", \"frame c1 ffffffffffff0200000000010800\"",
-        taken: Taken::Octets(LATER),
-        ..CAPTURE
-    },
-    // Nothing left the circuit at which the frame entered.
-    Case {
-        words: "capture f c1",
-        taken: Taken::Octets(HEADER),
-        ..CAPTURE
-    },
-    Case {
-        front: "\"connect a b\", \"settle 20\", \"frame ca ffffffffffff0200000000010800\", \"flow 10\"",
-        taken: Taken::Whole(TABLES),
-        ..TABLED
-    },
-    Case {
-        taken: Taken::Whole(NO_TABLES),
-        ..TABLED
-    },
-    Case {
-        front: "\"connect a b\", \"connect b c\", \"connect c d\", \"settle 100\", \"lose c d\"",
-        tables: CHAIN,
-        taken: Taken::Whole(WITHDRAWN),
-        ..TABLED
-    },
-    Case {
-        words: "rehearse 1",
-        entries: None,
-        taken: Taken::Whole("rehearse 1\nend events=8208 in=2000 left=4155 sent=5844 dropped=0\n"),
-        ..REPLAY
-    },
-];
+const UNTAKEN_REHEARSAL: &str = "
+= A sink that is full before its end.
+: words rehearse 0
+: room 5
+: told 4 vplsnet: write fault
+: taken
+rehearse 0
 
-// Words that are no row of the table.
-static USAGE: Case = Case {
-    front: BROADCAST,
-    tables: ONE_EDGE,
-    status: 2,
-    entries: Some(0),
-    told: "vplsnet: usage",
-    ..REPLAY
-};
+";
 
 const USAGE_ROWS: &str = "
     $ tables -> ! 2 vplsnet: usage
@@ -165,142 +148,140 @@ const USAGE_ROWS: &str = "
     $ rehearse x -> ! 2 vplsnet: usage
 ";
 
-// A circuit that is not there, behind the scenario's own fault.
-static NO_CIRCUITS: [Case; 3] = [
-    Case {
-        words: "capture f c4",
-        status: 5,
-        entries: Some(0),
-        taken: Taken::Whole(""),
-        told: "vplsnet: no circuit c4",
-        ..CAPTURE
-    },
-    Case {
-        words: "capture f e",
-        status: 5,
-        entries: Some(0),
-        taken: Taken::Whole(""),
-        told: "vplsnet: no circuit e",
-        ..CAPTURE
-    },
-    Case {
-        words: "capture f c4",
-        front: "\"jump\"",
-        status: 5,
-        entries: Some(0),
-        taken: Taken::Whole(""),
-        told: "vplsnet: scenario: BadWord 1 1",
-        ..CAPTURE
-    },
-];
+// A circuit that is not there.
+const NO_CIRCUITS: &str = r#"
+: front "frame c1 ffffffffffff0200000000010800"
+: entries 0
+= A name of nothing.
+: words capture f c4
+: told 5 vplsnet: no circuit c4
+= A name of an edge.
+: words capture f e
+: told 5 vplsnet: no circuit e
+= The scenario's own fault comes first.
+: words capture f c4
+: front "jump"
+: told 5 vplsnet: scenario: BadWord 1 1
+"#;
 
 // More frames than may be under way: a report is written, and of the other commands nothing.
-const CROWDED: Case = Case {
-    words: "tables f",
-    front: "\"connect a b\", \"settle 20\"",
-    piece: ", \"frame ca ffffffffffff0200000000010800\"",
-    times: 65_537,
-    tables: TWO,
-    room: 0,
-    status: 7,
-    entries: None,
-    taken: Taken::Whole(""),
-    told: "vplsnet: stopped: Crowded 65536 65542",
-    ..REPLAY
-};
+const CROWDED_TABLES: &str = r#"
+= One frame more than may be under way.
+: front "connect a b", "settle 20"
+: piece , "frame ca ffffffffffff0200000000010800"
+: times 65537
+: room 0
+: told 7 vplsnet: stopped: Crowded 65536 65542
+"#;
 
-static CROWDED_TABLES: Case = CROWDED;
+const CROWDED_CAPTURE: &str = r#"
+= The same, of a capture.
+: words capture f cb
+: front "connect a b", "settle 20"
+: piece , "frame ca ffffffffffff0200000000010800"
+: times 65537
+: room 0
+: told 7 vplsnet: stopped: Crowded 65536 65542
+"#;
 
-static CROWDED_CAPTURE: Case = Case {
-    words: "capture f cb",
-    ..CROWDED
-};
+// As many copies of one packet.
+const COPIED: &str = r#"
+: words tables f
+: opening version = 1
+events = [
+: front "connect a b", "settle 20", "frame ca ffffffffffff0200000000010800"
+: piece , "again 1"
+: times 65535
+: closing ]
+: tables
+[[edge]]
+name = "a"
+address = "10.0.0.1"
+[[edge]]
+name = "b"
+address = "10.0.0.2"
+[[service]]
+name = "s"
+[[circuit]]
+name = "ca"
+edge = "a"
+service = "s"
+[[circuit]]
+name = "cb"
+edge = "b"
+service = "s"
+[[wire]]
+name = "w"
+service = "s"
+class = "mesh"
+path = ["a", "b"]
+pw_id = 100
+: wires
+vccv = 1
+: room 0
+"#;
 
-// As many copies of one packet, behind which neither a further copy is done, nor a ping, nor an arrival.
-const COPIED: Case = Case {
-    front: "\"connect a b\", \"settle 20\", \"frame ca ffffffffffff0200000000010800\"",
-    piece: ", \"again 1\"",
-    times: 65_535,
-    back: ", \"again 1\"",
-    wires: "vccv = 1\n",
-    ..CROWDED
-};
+const CROWDED_COPY: &str = r#"
+= Neither a further copy is done,
+: back , "again 1"
+: told 7 vplsnet: stopped: Crowded 65536 65542
+"#;
 
-static CROWDED_COPY: Case = COPIED;
+const CROWDED_PING: &str = r#"
+= nor a ping,
+: back , "ping a w"
+: told 7 vplsnet: stopped: Crowded 65536 65542
+"#;
 
-static CROWDED_PING: Case = Case {
-    back: ", \"ping a w\"",
-    ..COPIED
-};
-
-static CROWDED_ARRIVAL: Case = Case {
-    back: ", \"arrive 1\"",
-    ..COPIED
-};
-
-// The first call of the sink fails, and nothing is taken.
-static CUT: [Case; 3] = [
-    Case {
-        sink_fails: 1,
-        status: 4,
-        taken: Taken::Whole(""),
-        told: "vplsnet: write fault",
-        ..CAPTURE
-    },
-    Case {
-        sink_fails: 1,
-        status: 4,
-        told: "vplsnet: write fault",
-        ..TABLED
-    },
-    Case {
-        words: "rehearse 0",
-        room: 5,
-        entries: None,
-        status: 4,
-        taken: Taken::Whole("rehea"),
-        told: "vplsnet: write fault",
-        ..REPLAY
-    },
-];
+const CROWDED_ARRIVAL: &str = r#"
+= nor an arrival.
+: back , "arrive 1"
+: told 7 vplsnet: stopped: Crowded 65536 65542
+"#;
 
 #[test]
 fn writes_the_text_of_each_command(rt: HostRuntime) {
-    all_play(&rt, rt.alloc(), WRITTEN.as_slice());
-}
-
-#[test]
-fn refuses_other_words_and_circuits(rt: HostRuntime) {
-    rows_play(&rt, rt.alloc(), &USAGE, USAGE_ROWS);
-    all_play(&rt, rt.alloc(), NO_CIRCUITS.as_slice());
-}
-
-#[test]
-fn writes_no_tables_of_a_run_that_stopped(rt: HostRuntime) {
-    plays(&rt, rt.alloc(), &CROWDED_TABLES);
-}
-
-#[test]
-fn writes_no_capture_of_a_run_that_stopped(rt: HostRuntime) {
-    plays(&rt, rt.alloc(), &CROWDED_CAPTURE);
-}
-
-#[test]
-fn copies_no_packet_of_a_crowded_network(rt: HostRuntime) {
-    plays(&rt, rt.alloc(), &CROWDED_COPY);
-}
-
-#[test]
-fn pings_nobody_in_a_crowded_network(rt: HostRuntime) {
-    plays(&rt, rt.alloc(), &CROWDED_PING);
-}
-
-#[test]
-fn lets_nothing_arrive_in_a_crowded_network(rt: HostRuntime) {
-    plays(&rt, rt.alloc(), &CROWDED_ARRIVAL);
+    let alloc = rt.alloc();
+    plays(&rt, alloc, ONE_EDGE, CAPTURED);
+    plays(&rt, alloc, TWO, TABLED);
+    plays(&rt, alloc, REPLAY, REHEARSED);
 }
 
 #[test]
 fn tells_a_fault_of_the_sink(rt: HostRuntime) {
-    all_play(&rt, rt.alloc(), CUT.as_slice());
+    let alloc = rt.alloc();
+    plays(&rt, alloc, ONE_EDGE, UNTAKEN_CAPTURE);
+    plays(&rt, alloc, TWO, UNTAKEN_TABLES);
+    plays(&rt, alloc, REPLAY, UNTAKEN_REHEARSAL);
+}
+
+#[test]
+fn refuses_other_words_and_circuits(rt: HostRuntime) {
+    lines_play(&rt, rt.alloc(), ONE_EDGE, USAGE_ROWS);
+    plays(&rt, rt.alloc(), ONE_EDGE, NO_CIRCUITS);
+}
+
+#[test]
+fn writes_no_tables_of_a_run_that_stopped(rt: HostRuntime) {
+    plays(&rt, rt.alloc(), TWO, CROWDED_TABLES);
+}
+
+#[test]
+fn writes_no_capture_of_a_run_that_stopped(rt: HostRuntime) {
+    plays(&rt, rt.alloc(), TWO, CROWDED_CAPTURE);
+}
+
+#[test]
+fn copies_no_packet_of_a_crowded_network(rt: HostRuntime) {
+    plays(&rt, rt.alloc(), COPIED, CROWDED_COPY);
+}
+
+#[test]
+fn pings_nobody_in_a_crowded_network(rt: HostRuntime) {
+    plays(&rt, rt.alloc(), COPIED, CROWDED_PING);
+}
+
+#[test]
+fn lets_nothing_arrive_in_a_crowded_network(rt: HostRuntime) {
+    plays(&rt, rt.alloc(), COPIED, CROWDED_ARRIVAL);
 }

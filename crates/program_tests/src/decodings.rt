@@ -1,6 +1,17 @@
 //! Whole decodings, of octets that were worked out by hand from the layouts of the RFCs.
 
-use crate::around::{Case, DECODE, Taken, all_play, plays, rows_play};
+use crate::around::{lines_play, plays};
+
+// A decoding of hexadecimal digits.
+const DECODE: &str = "
+: words decode f
+: hexadecimal
+: entries 0
+";
+
+const NOTHING: &str = "
+= No octets.
+";
 
 // Messages of sessions and of addresses, and what is not processed.
 const SESSION_ROWS: &str = "
@@ -32,13 +43,13 @@ const MAPPING_ROWS: &str = "
     000100220a0000010000 0400001800000003 01000008 02000120 0a000003 0200000400000003 -> 0 Unprocessed id=3 type=1024 why=UnknownFec:2
 ";
 
-static LONG_MAPPING: Case = Case {
-    front: "0001005e0a0000010000 0400005400000003 0100001c 80000414 00000007 00000064 010405dc 03046162 06040fff 0c040102 02000004000fffff 896a00040000003f 896d0012 010400000064 03040a000002 04040a000003 896d0006 03040a000003",
-    taken: Taken::Whole(
-        "0 LabelMapping id=3 fec=0/4/7/100 mtu=1500 description=6162 vlan=4095 vccv=1/2 label=1048575 status=63 point=100/10.0.0.2/10.0.0.3 point=-/10.0.0.3/-\n",
-    ),
-    ..DECODE
-};
+const LONG_MAPPING: &str = "
+= Both ends of a pseudowire by name, and each of its parameters.
+: front 0001005e0a0000010000 0400005400000003 0100001c 80000414 00000007 00000064 010405dc 03046162 06040fff 0c040102 02000004000fffff 896a00040000003f 896d0012 010400000064 03040a000002 04040a000003 896d0006 03040a000003
+: taken
+0 LabelMapping id=3 fec=0/4/7/100 mtu=1500 description=6162 vlan=4095 vccv=1/2 label=1048575 status=63 point=100/10.0.0.2/10.0.0.3 point=-/10.0.0.3/-
+
+";
 
 // Requests and withdrawals of labels, the status of a pseudowire, and withdrawn MAC addresses.
 const LABEL_ROWS: &str = "
@@ -52,56 +63,81 @@ const LABEL_ROWS: &str = "
     0001002e0a0000010000 0301002400000006 0100000c 80800504 00000000 00000064 8404000c 020000000001 0200000000ff -> 0 AddressWithdraw id=6 fec=1/5/0/100 macs=2/0200000000010200000000ff
 ";
 
-// Streams of some PDUs, of which the last may be cut.
-const STREAM_ROWS: &str = "
-    000100160a0000010000 0201000400000001 0201000400000002 0001000e0a00000100000201000400000001 -> 0 KeepAlive id=1 / 0 KeepAlive id=2 / 26 KeepAlive id=1
-    0001000e0a000001000002010004000000 -> ! 6 vplsnet: stream ends at 0
-    0001000e0a00000100000201000400000001 00 -> 0 KeepAlive id=1 ! 6 vplsnet: stream ends at 18
-    000100160a0000010000 0201000400000001 0201000400000002 0001000e0a00 -> 0 KeepAlive id=1 / 0 KeepAlive id=2 ! 6 vplsnet: stream ends at 26
+// Streams of some PDUs, of which the last may be cut off or be refused.
+const STREAMS: &str = "
+= A PDU of two messages, and a PDU of one.
+: front 000100160a0000010000 0201000400000001 0201000400000002 0001000e0a00000100000201000400000001
+: taken
+0 KeepAlive id=1
+0 KeepAlive id=2
+26 KeepAlive id=1
+
+= A PDU that is cut off.
+: front 0001000e0a000001000002010004000000
+: told 6 vplsnet: stream ends at 0
+= An octet behind a PDU.
+: front 0001000e0a00000100000201000400000001 00
+: told 6 vplsnet: stream ends at 18
+: taken
+0 KeepAlive id=1
+
+= A second PDU that is cut off.
+: front 000100160a0000010000 0201000400000001 0201000400000002 0001000e0a00
+: told 6 vplsnet: stream ends at 26
+: taken
+0 KeepAlive id=1
+0 KeepAlive id=2
+
+= Seven PDUs.
+: front 000100200a0000010000 0200001600000001 0500000e 000100b4000010000a0000020000
+0001000e0a0000010000 0201000400000002
+000100320a0000010000 0400002800000003 01000010 80800508 00000000 00000064 010405dc 0200000400000010 896a000400000000
+000100340a0000010000 0001002a00000004 0300000a 00000028 00000000 0000 896a000400000006 0100000c 80800504 00000000 00000064
+0001002e0a0000010000 0301002400000005 0100000c 80800504 00000000 00000064 8404000c 02000000000a 02000000000b
+000100260a0000010000 0402001c00000006 0100000c 80800504 00000000 00000064 0200000400000010
+000100260a0000010000 0403001c00000007 0100000c 80800504 00000000 00000064 0200000400000011
+: taken
+0 Initialization id=1 session=1/180/0/0/0/4096/10.0.0.2:0
+36 KeepAlive id=2
+54 LabelMapping id=3 fec=1/5/0/100 mtu=1500 label=16 status=0
+108 Notification id=4 code=0/0/40/0/0 fec=1/5/0/100 status=6
+164 AddressWithdraw id=5 fec=1/5/0/100 macs=2/02000000000a02000000000b
+214 LabelWithdraw id=6 fec=1/5/0/100 label=16
+256 LabelRelease id=7 fec=1/5/0/100 label=17
+
+= A second PDU that is too short.
+: front 0001000e0a00000100000201000400000001 0001000d
+: told 6 vplsnet: stream: 18 PduLength 2
+: taken
+0 KeepAlive id=1
+
+= A second PDU whose message is too short.
+: front 0001000e0a00000100000201000400000001 0001000e0a0000010000 0201000300000001
+: told 6 vplsnet: stream: 18 MessageLength 12
+: taken
+0 KeepAlive id=1
+
 ";
 
-static STREAM: Case = Case {
-    front: "000100200a0000010000 0200001600000001 0500000e 000100b4000010000a0000020000 \
-     0001000e0a0000010000 0201000400000002 \
-     000100320a0000010000 0400002800000003 01000010 80800508 00000000 00000064 010405dc 0200000400000010 896a000400000000 \
-     000100340a0000010000 0001002a00000004 0300000a 00000028 00000000 0000 896a000400000006 0100000c 80800504 00000000 00000064 \
-     0001002e0a0000010000 0301002400000005 0100000c 80800504 00000000 00000064 8404000c 02000000000a 02000000000b \
-     000100260a0000010000 0402001c00000006 0100000c 80800504 00000000 00000064 0200000400000010 \
-     000100260a0000010000 0403001c00000007 0100000c 80800504 00000000 00000064 0200000400000011",
-    taken: Taken::Whole(
-        "0 Initialization id=1 session=1/180/0/0/0/4096/10.0.0.2:0\n\
-     36 KeepAlive id=2\n\
-     54 LabelMapping id=3 fec=1/5/0/100 mtu=1500 label=16 status=0\n\
-     108 Notification id=4 code=0/0/40/0/0 fec=1/5/0/100 status=6\n\
-     164 AddressWithdraw id=5 fec=1/5/0/100 macs=2/02000000000a02000000000b\n\
-     214 LabelWithdraw id=6 fec=1/5/0/100 label=16\n\
-     256 LabelRelease id=7 fec=1/5/0/100 label=17\n",
-    ),
-    ..DECODE
-};
-
-// Streams that are refused for a header or a message.
+// Streams that are refused at their first PDU for a header or a message.
 const REFUSED_ROWS: &str = "
     0001000d -> ! 6 vplsnet: stream: 0 PduLength 2
     00011001 -> ! 6 vplsnet: stream: 0 PduLength 2
     0002 -> ! 6 vplsnet: stream: 0 Version 0
-    0001000e0a00000100000201000400000001 0001000d -> 0 KeepAlive id=1 ! 6 vplsnet: stream: 18 PduLength 2
-    0001000e0a00000100000201000400000001 0001000e0a0000010000 0201000300000001 -> 0 KeepAlive id=1 ! 6 vplsnet: stream: 18 MessageLength 12
     0001000f0a0000010000 020100050000000100 -> ! 6 vplsnet: stream: 0 TlvLength 18
     0001001b0a0000010000 0001001100000001 03000009 800000100000000102 -> ! 6 vplsnet: stream: 0 TlvValue 20 Status
     0001001e0a0000010000 0100001400000007 04000004002dc000 04000004002dc000 -> ! 6 vplsnet: stream: 0 Repeated 26 Hello
 ";
 
-// A KeepAlive and a PDU with a wrong length, in a sound surrounding.
-const CUT: Case = Case {
-    front: "0001000e0a00000100000201000400000001 0001000d",
-    room: 200,
-    ..DECODE
-};
+// A KeepAlive and a PDU with a wrong length.
+const CUT: &str = "
+: words decode f
+: front 0001000e0a00000100000201000400000001 0001000d
+: hexadecimal
+: entries 0
+";
 
-const LINE: &str = "0 KeepAlive id=1\n";
-
-// How a call of these ends, by its words, by which call of the shelf fails, and by how much the sink takes.
+// How a call ends by its words.
 const OUTSIDE_ROWS: &str = "
     $ decode -> ! 2 vplsnet: usage
     $ decode f f -> ! 2 vplsnet: usage
@@ -110,164 +146,147 @@ const OUTSIDE_ROWS: &str = "
     $ decode g -> ! 3 vplsnet: read fault
 ";
 
-static OUTSIDE: [Case; 6] = [
-    Case {
-        shelf_fails: 1,
-        status: 3,
-        told: "vplsnet: read fault",
-        ..CUT
-    },
-    Case {
-        shelf_fails: 2,
-        status: 3,
-        told: "vplsnet: read fault",
-        ..CUT
-    },
-    Case {
-        shelf_fails: 3,
-        status: 6,
-        taken: Taken::Front(LINE, 17),
-        told: "vplsnet: stream: 18 PduLength 2",
-        ..CUT
-    },
-    Case {
-        room: 17,
-        status: 6,
-        taken: Taken::Front(LINE, 17),
-        told: "vplsnet: stream: 18 PduLength 2",
-        ..CUT
-    },
-    Case {
-        room: 16,
-        status: 4,
-        taken: Taken::Front(LINE, 16),
-        told: "vplsnet: write fault",
-        ..CUT
-    },
-    Case {
-        room: 0,
-        status: 4,
-        told: "vplsnet: write fault",
-        ..CUT
-    },
-];
+// How a call ends by which call of the shelf fails, and by how much the sink takes.
+const OUTSIDE: &str = "
+= The first call of the shelf fails.
+: shelf 1
+: told 3 vplsnet: read fault
+= The second call of the shelf fails.
+: shelf 2
+: told 3 vplsnet: read fault
+= The third call of the shelf would fail.
+: shelf 3
+: told 6 vplsnet: stream: 18 PduLength 2
+: taken
+0 KeepAlive id=1
 
-// More KeepAlives than a stream holds. Their lines are the digits of 0, 18, 36 and so on to 17982, and 16 characters behind
-// each.
-static MANY: Case = Case {
-    piece: "0001000e0a00000100000201000400000001",
-    times: 1000,
-    room: 30_000,
-    taken: Taken::Long(
-        4_381 + 16_000,
-        "\n17964 KeepAlive id=1\n17982 KeepAlive id=1\n",
-    ),
-    ..DECODE
-};
+= There is room for the line.
+: room 17
+: told 6 vplsnet: stream: 18 PduLength 2
+: taken
+0 KeepAlive id=1
+
+= There is room for the line without its end.
+: room 16
+: told 4 vplsnet: write fault
+: taken
+0 KeepAlive id=1
+
+= There is no room.
+: room 0
+: told 4 vplsnet: write fault
+";
+
+// More KeepAlives than a stream holds.
+const MANY: &str = "
+= Their lines are the digits of 0, 18, 36 and so on to 17982, and 16 characters behind each.
+: piece 0001000e0a00000100000201000400000001
+: times 1000
+: room 30000
+: long 20381
+: ends
+
+17964 KeepAlive id=1
+17982 KeepAlive id=1
+
+";
 
 // KeepAlives whose lines are more than the 65,536 octets that are written at once: 19,381 digits, and 16 characters behind each.
-const LONG: Case = Case {
-    piece: "0001000e0a00000100000201000400000001",
-    times: 4000,
-    room: 90_000,
-    ..DECODE
-};
+const PAGES: &str = "
+: piece 0001000e0a00000100000201000400000001
+: times 4000
+: room 90000
+= Whole.
+: long 83381
+: ends
 
-// How a call of these ends: whole, behind a fault, and by which write fails and how much the sink takes.
-static PAGES: [Case; 6] = [
-    Case {
-        taken: Taken::Long(19_381 + 64_000, "\n71982 KeepAlive id=1\n"),
-        ..LONG
-    },
-    Case {
-        back: "0001000d",
-        status: 6,
-        taken: Taken::Long(19_381 + 64_000, "\n71982 KeepAlive id=1\n"),
-        told: "vplsnet: stream: 72000 PduLength 2",
-        ..LONG
-    },
-    Case {
-        back: "0001",
-        status: 6,
-        taken: Taken::Long(19_381 + 64_000, "\n71982 KeepAlive id=1\n"),
-        told: "vplsnet: stream ends at 72000",
-        ..LONG
-    },
-    Case {
-        sink_fails: 1,
-        status: 4,
-        told: "vplsnet: write fault",
-        ..LONG
-    },
-    Case {
-        sink_fails: 2,
-        status: 4,
-        taken: Taken::Long(65_536, "\n56682 KeepAlive id=1\n56700"),
-        told: "vplsnet: write fault",
-        ..LONG
-    },
-    Case {
-        room: 70_000,
-        status: 4,
-        taken: Taken::Long(70_000, "\n60498 KeepAlive id=1\n60516 KeepAlive i"),
-        told: "vplsnet: write fault",
-        ..LONG
-    },
-];
+71982 KeepAlive id=1
 
-// 67,108,865 octets.
-static TOO_LONG: Case = Case {
-    piece: "\x07\x07\x07\x07\x07\x07\x07\x07\x07\x07\x07\x07\x07\x07\x07\x07\
-        \x07\x07\x07\x07\x07\x07\x07\x07\x07\x07\x07\x07\x07\x07\x07\x07\
-        \x07\x07\x07\x07\x07\x07\x07\x07\x07\x07\x07\x07\x07\x07\x07\x07\
-        \x07\x07\x07\x07\x07\x07\x07\x07\x07\x07\x07\x07\x07\x07\x07\x07",
-    times: 1_048_576,
-    back: "\x07",
-    is_hexadecimal: false,
-    status: 5,
-    told: "vplsnet: f is longer than 67108864",
-    ..DECODE
-};
+= Behind it a PDU with a wrong length.
+: back 0001000d
+: told 6 vplsnet: stream: 72000 PduLength 2
+: long 83381
+: ends
 
-static DECODED: Case = DECODE;
+71982 KeepAlive id=1
 
-static CUT_OFF: Case = CUT;
+= Behind it a PDU that is cut off.
+: back 0001
+: told 6 vplsnet: stream ends at 72000
+: long 83381
+: ends
+
+71982 KeepAlive id=1
+
+= The first write fails.
+: sink 1
+: told 4 vplsnet: write fault
+= The second write fails.
+: sink 2
+: told 4 vplsnet: write fault
+: long 65536
+: ends
+
+56682 KeepAlive id=1
+56700
+= The sink is full within the second write.
+: room 70000
+: told 4 vplsnet: write fault
+: long 70000
+: ends
+
+60498 KeepAlive id=1
+60516 KeepAlive i
+";
+
+// A decoding of a text.
+const TEXT: &str = "
+: words decode f
+: entries 0
+";
+
+const TOO_LONG: &str = "
+= 67,108,865 octets.
+: piece ################################################################
+: times 1048576
+: back #
+: told 5 vplsnet: f is longer than 67108864
+";
 
 #[test]
 fn writes_messages_of_sessions_and_addresses(rt: HostRuntime) {
-    rows_play(&rt, rt.alloc(), &DECODED, SESSION_ROWS);
-    plays(&rt, rt.alloc(), &DECODED);
+    lines_play(&rt, rt.alloc(), DECODE, SESSION_ROWS);
+    plays(&rt, rt.alloc(), DECODE, NOTHING);
 }
 
 #[test]
 fn writes_label_mappings(rt: HostRuntime) {
-    rows_play(&rt, rt.alloc(), &DECODED, MAPPING_ROWS);
-    plays(&rt, rt.alloc(), &LONG_MAPPING);
+    lines_play(&rt, rt.alloc(), DECODE, MAPPING_ROWS);
+    plays(&rt, rt.alloc(), DECODE, LONG_MAPPING);
 }
 
 #[test]
 fn writes_messages_of_labels(rt: HostRuntime) {
-    rows_play(&rt, rt.alloc(), &DECODED, LABEL_ROWS);
+    lines_play(&rt, rt.alloc(), DECODE, LABEL_ROWS);
 }
 
 #[test]
 fn ends_where_a_stream_or_the_outside_does(rt: HostRuntime) {
     let alloc = rt.alloc();
-    rows_play(&rt, alloc, &DECODED, STREAM_ROWS);
-    plays(&rt, alloc, &STREAM);
-    rows_play(&rt, alloc, &DECODED, REFUSED_ROWS);
-    rows_play(&rt, alloc, &CUT_OFF, OUTSIDE_ROWS);
-    all_play(&rt, alloc, OUTSIDE.as_slice());
-    plays(&rt, alloc, &MANY);
+    plays(&rt, alloc, DECODE, STREAMS);
+    lines_play(&rt, alloc, DECODE, REFUSED_ROWS);
+    lines_play(&rt, alloc, CUT, OUTSIDE_ROWS);
+    plays(&rt, alloc, CUT, OUTSIDE);
+    plays(&rt, alloc, DECODE, MANY);
 }
 
 #[test]
 fn writes_long_texts_page_by_page(rt: HostRuntime) {
-    all_play(&rt, rt.alloc(), PAGES.as_slice());
+    plays(&rt, rt.alloc(), DECODE, PAGES);
 }
 
 // A test has a minute, so what takes long is a test of its own.
 #[test]
 fn tells_a_stream_that_is_too_long(rt: HostRuntime) {
-    plays(&rt, rt.alloc(), &TOO_LONG);
+    plays(&rt, rt.alloc(), TEXT, TOO_LONG);
 }

@@ -1,34 +1,41 @@
 //! The command `discover`: scripts over a plan of two edges, and what is refused before.
 
-use crate::around::{Case, REPLAY, Taken, all_play, plays, rows_play};
+use crate::around::{lines_play, plays};
 
-/// Two edges, a mesh wire and a circuit.
-pub const PLAN: &str =
-    "edge = [{ name = \"a\", address = \"10.0.0.1\" }, { name = \"b\", address = \"10.0.0.2\" }]
-service = [{ name = \"s\" }]
+/// Two edges, a mesh wire and a circuit, and an empty script. The scenario plays a capture that is not there: its events are not done, and
+/// what they play is not read.
+pub const PLAN: &str = r#"
+: s
+
+: opening version = 2
+events = ["play c k"
+: closing ]
+: tables
+edge = [{ name = "a", address = "10.0.0.1" }, { name = "b", address = "10.0.0.2" }]
+service = [{ name = "s" }]
 [[wire]]
-name = \"w\"
-service = \"s\"
-class = \"mesh\"
-path = [\"a\", \"b\"]
+name = "w"
+service = "s"
+class = "mesh"
+path = ["a", "b"]
 pw_id = 100
 [[circuit]]
-name = \"c\"
-edge = \"a\"
-service = \"s\"
-";
+name = "c"
+edge = "a"
+service = "s"
+"#;
 
-// The scenario plays a capture that is not there: its events are not done, and what they play is not read.
-const DISCOVER: Case = Case {
-    words: "discover f s",
-    opening: "version = 2\nevents = [\"play c k\"",
-    tables: PLAN,
-    second: Some(""),
-    ..REPLAY
-};
+const DONE: &str = "
+: words discover f s
+= No line.
+: entries 0
+: taken
+vplsnet 1
+end events=0 in=0 left=0 sent=0 dropped=0
 
-// Adjacencies of 45 and 15 ticks: one opening is barred, and what stands on the shorter one is lost with it.
-const LAPSE: &str = "hello a b 45
+= Adjacencies of 45 and 15 ticks: one opening is barred, and what stands on the shorter one is lost with it.
+: s
+hello a b 45
 hello b a 15
 bring 1
 open a b
@@ -49,9 +56,9 @@ tick
 tick
 tick
 tick
-";
 
-const LAPSE_REPORT: &str = "vplsnet 1
+: taken
+vplsnet 1
 hello 1 a b 0001001e0a0000010000010000140000000104000004002dc000040100040a000001
 hello 2 b a 0001001e0a0000020000010000140000000104000004000fc000040100040a000002
 adjacency b a up
@@ -84,18 +91,18 @@ adjacency b a down
 session b a Ended:Closed
 > tick
 end events=18 in=0 left=0 sent=0 dropped=0
-";
 
-// Lines that do not apply, an opening without adjacencies, and commands.
-const IDLE: &str = "hello a a 1
+= Lines that do not apply, an opening without adjacencies, and commands.
+: s
+hello a a 1
 bring 9
 open b b
 open a b
 do settle 3
 do lose a b
-";
 
-const IDLE_REPORT: &str = "vplsnet 1
+: taken
+vplsnet 1
 idle
 idle
 idle
@@ -103,10 +110,10 @@ barred a b
 > lose a b
 idle
 end events=1 in=0 left=0 sent=0 dropped=0
-";
 
-// A Hello is brought twice, and one late; an edge restarts between, and its adjacencies last.
-const RESTART: &str = "hello a b 0
+= A Hello is brought twice, and one late; an edge restarts between, and its adjacencies last.
+: s
+hello a b 0
 hello b a 1
 bring 2
 bring 1
@@ -119,9 +126,9 @@ bring 2
 open a b
 bring 1
 open a b
-";
 
-const RESTART_REPORT: &str = "vplsnet 1
+: taken
+vplsnet 1
 hello 1 a b 0001001e0a00000100000100001400000001040000040000c000040100040a000001
 hello 2 b a 0001001e0a00000200000100001400000001040000040001c000040100040a000002
 adjacency a b up
@@ -148,74 +155,47 @@ session b a Initialized
 said b a 000100200a000002000002000016000000010500000e000100b4000010000a0000010000
 session b a OpenSent
 end events=6 in=0 left=0 sent=0 dropped=0
+
 ";
 
-static DONE: [Case; 4] = [
-    Case {
-        entries: Some(0),
-        taken: Taken::Whole("vplsnet 1\nend events=0 in=0 left=0 sent=0 dropped=0\n"),
-        ..DISCOVER
-    },
-    Case {
-        second: Some(LAPSE),
-        taken: Taken::Whole(LAPSE_REPORT),
-        ..DISCOVER
-    },
-    Case {
-        second: Some(IDLE),
-        taken: Taken::Whole(IDLE_REPORT),
-        ..DISCOVER
-    },
-    Case {
-        second: Some(RESTART),
-        taken: Taken::Whole(RESTART_REPORT),
-        ..DISCOVER
-    },
-];
-
 // A script is refused where the scenario is not, at its first fault, and none of its lines is done before.
-static REFUSED: [Case; 6] = [
-    Case {
-        second: Some("hello a b 1\nhello a b 70000\n"),
-        status: 5,
-        entries: Some(0),
-        told: "vplsnet: script: 2 4",
-        ..DISCOVER
-    },
-    Case {
-        second: Some("hello a c 1\n\n"),
-        status: 5,
-        told: "vplsnet: script: 2 1",
-        ..DISCOVER
-    },
-    Case {
-        second: Some("do tick\n"),
-        status: 5,
-        told: "vplsnet: script: 1 2",
-        ..DISCOVER
-    },
-    Case {
-        second: Some("tick"),
-        status: 5,
-        told: "vplsnet: script: 1 2",
-        ..DISCOVER
-    },
-    Case {
-        opening: "version = 3\nevents = [",
-        second: Some("tock\n"),
-        status: 5,
-        told: "vplsnet: scenario: Version",
-        ..DISCOVER
-    },
-    // The scenario is read first.
-    Case {
-        opening: "version = 3\nevents = [",
-        second: None,
-        status: 5,
-        told: "vplsnet: scenario: Version",
-        ..DISCOVER
-    },
-];
+const REFUSED: &str = "
+: words discover f s
+= A number that is too great.
+: s
+hello a b 1
+hello a b 70000
+
+: entries 0
+: told 5 vplsnet: script: 2 4
+= An edge that is not there.
+: s
+hello a c 1
+
+
+: told 5 vplsnet: script: 2 1
+= A command that is none.
+: s
+do tick
+
+: told 5 vplsnet: script: 1 2
+= A line without its end.
+: s
+tick
+: told 5 vplsnet: script: 1 2
+= The scenario is refused first.
+: opening version = 3
+events = [
+: s
+tock
+
+: told 5 vplsnet: scenario: Version
+= The scenario is read first.
+: words discover f x
+: opening version = 3
+events = [
+: told 5 vplsnet: scenario: Version
+";
 
 const USAGE_ROWS: &str = "
     $ discover f -> ! 2 vplsnet: usage
@@ -223,104 +203,116 @@ const USAGE_ROWS: &str = "
     $ discover f -s -> ! 2 vplsnet: usage
 ";
 
-// A scenario of two edges that connect, as a second file.
-const PAIR: &str = "version = 2
+// A scenario of two edges that connect, as a second file: the script is the first one.
+const PAIR: &str = r#"
+: s
+version = 2
 events = []
-edge = [{ name = \"a\", address = \"10.0.0.1\" }, { name = \"b\", address = \"10.0.0.2\" }]
-service = [{ name = \"s\" }]
+edge = [{ name = "a", address = "10.0.0.1" }, { name = "b", address = "10.0.0.2" }]
+service = [{ name = "s" }]
 [[wire]]
-name = \"w\"
-service = \"s\"
-class = \"mesh\"
-path = [\"a\", \"b\"]
+name = "w"
+service = "s"
+class = "mesh"
+path = ["a", "b"]
 pw_id = 100
 [[circuit]]
-name = \"c\"
-edge = \"a\"
-service = \"s\"
+name = "c"
+edge = "a"
+service = "s"
+
+: words discover s f
+"#;
+
+const CROWDED: &str = "
+= As many copies of one packet are under way as may be, and the line that asks for one more is not done.
+: opening hello a b 0
+hello b a 0
+bring 1
+bring 2
+open a b
+do settle 20
+do frame c ffffffffffff0200000000010800
+
+: piece do again 1
+
+: times 65536
+: room 8000000
+: told 7 vplsnet: stopped: Crowded 65536 65542
+: begins
+copied 65536 1
+
+: ends
+stop Crowded 65536
+
 ";
 
-// A script in the first file. As many copies of one packet are under way as may be, and the line that asks for one more is not done.
-static CROWDED: Case = Case {
-    words: "discover s f",
-    opening: "hello a b 0\nhello b a 0\nbring 1\nbring 2\nopen a b\ndo settle 20\ndo frame c ffffffffffff0200000000010800\n",
-    piece: "do again 1\n",
-    times: 65_536,
-    closing: "",
-    tables: "",
-    second: Some(PAIR),
-    room: 8_000_000,
-    status: 7,
-    taken: Taken::Ends("copied 65536 1\n", "stop Crowded 65536\n"),
-    told: "vplsnet: stopped: Crowded 65536 65542",
-    ..DISCOVER
-};
+const LONG: &str = "
+= A script of 8,388,609 octets.
+: piece tick
+bring 9
+hello a b 0
+bring 1
 
-// A script of 8,388,609 octets.
-static LONG: Case = Case {
-    words: "discover s f",
-    opening: "",
-    piece: "tick\nbring 9\nhello a b 0\nbring 1\n",
-    times: 254_200,
-    back: "bring 10\n",
-    closing: "",
-    tables: "",
-    second: Some(PAIR),
-    status: 5,
-    told: "vplsnet: f is longer than 8388608",
-    ..DISCOVER
-};
+: times 254200
+: back bring 10
+
+: told 5 vplsnet: f is longer than 8388608
+";
 
 // A file is not there, a call of the shelf fails, or one of the sink, which took a front before.
-static FAILED: [Case; 4] = [
-    Case {
-        second: None,
-        status: 3,
-        told: "vplsnet: read fault",
-        ..DISCOVER
-    },
-    Case {
-        shelf_fails: 1,
-        status: 3,
-        told: "vplsnet: read fault",
-        ..DISCOVER
-    },
-    Case {
-        sink_fails: 1,
-        status: 4,
-        told: "vplsnet: write fault",
-        ..DISCOVER
-    },
-    Case {
-        second: Some(IDLE),
-        room: 14,
-        status: 4,
-        taken: Taken::Whole("vplsnet 1\nidle"),
-        told: "vplsnet: write fault",
-        ..DISCOVER
-    },
-];
+const FAILED: &str = "
+: words discover f s
+= The script is not there.
+: words discover f x
+: told 3 vplsnet: read fault
+= A call of the shelf fails.
+: shelf 1
+: told 3 vplsnet: read fault
+= A call of the sink fails.
+: sink 1
+: told 4 vplsnet: write fault
+= The sink takes a front.
+: s
+hello a a 1
+bring 9
+open b b
+open a b
+do settle 3
+do lose a b
 
-static DISCOVERY: Case = DISCOVER;
+: room 14
+: told 4 vplsnet: write fault
+: taken
+vplsnet 1
+idle
+idle
+idle
+barred a b
+> lose a b
+idle
+end events=1 in=0 left=0 sent=0 dropped=0
+
+";
 
 #[test]
 fn reports_scripts(rt: HostRuntime) {
-    all_play(&rt, rt.alloc(), DONE.as_slice());
+    plays(&rt, rt.alloc(), PLAN, DONE);
 }
 
 #[test]
 fn stops_a_script_at_a_limit(rt: HostRuntime) {
-    plays(&rt, rt.alloc(), &CROWDED);
+    plays(&rt, rt.alloc(), PAIR, CROWDED);
 }
 
 #[test]
 fn refuses_a_script_that_is_too_long(rt: HostRuntime) {
-    plays(&rt, rt.alloc(), &LONG);
+    plays(&rt, rt.alloc(), PAIR, LONG);
 }
 
 #[test]
 fn refuses_what_is_no_script(rt: HostRuntime) {
-    all_play(&rt, rt.alloc(), REFUSED.as_slice());
-    rows_play(&rt, rt.alloc(), &DISCOVERY, USAGE_ROWS);
-    all_play(&rt, rt.alloc(), FAILED.as_slice());
+    plays(&rt, rt.alloc(), PLAN, REFUSED);
+    lines_play(&rt, rt.alloc(), PLAN, USAGE_ROWS);
+    plays(&rt, rt.alloc(), PLAN, FAILED);
 }

@@ -1,55 +1,43 @@
 //! Whole replays of frames over a mesh wire: they cross it, are lost, repeated and reordered, and are dropped.
 
-use crate::around::{Case, REPLAY, Taken, all_play, plays};
+use crate::around::plays;
 
 // Two edges, a service with a circuit at each, and a mesh wire of it between them, whose row goes on.
-const JOINED: &str = "
+const JOINED: &str = r#"
+: words replay f
+: opening version = 1
+events = [
+: closing ]
+: tables
 [[edge]]
-name = \"a\"
-address = \"10.0.0.1\"
+name = "a"
+address = "10.0.0.1"
 [[edge]]
-name = \"b\"
-address = \"10.0.0.2\"
+name = "b"
+address = "10.0.0.2"
 [[service]]
-name = \"s\"
+name = "s"
 [[circuit]]
-name = \"ca\"
-edge = \"a\"
-service = \"s\"
+name = "ca"
+edge = "a"
+service = "s"
 [[circuit]]
-name = \"cb\"
-edge = \"b\"
-service = \"s\"
+name = "cb"
+edge = "b"
+service = "s"
 [[wire]]
-name = \"w\"
-service = \"s\"
-class = \"mesh\"
+name = "w"
+service = "s"
+class = "mesh"
 pw_id = 100
-path = [\"a\", \"b\"]
-";
+path = ["a", "b"]
+"#;
 
-// A second service between the two edges.
-const SECOND: &str = "
-[[service]]
-name = \"r\"
-[[circuit]]
-name = \"ra\"
-edge = \"a\"
-service = \"r\"
-[[circuit]]
-name = \"rb\"
-edge = \"b\"
-service = \"r\"
-[[wire]]
-name = \"v\"
-service = \"r\"
-class = \"mesh\"
-pw_id = 200
-path = [\"a\", \"b\"]
-";
-
-// The edges set the wire up, and a broadcast crosses it (RFC 4448 section 4).
-const CROSSES: &str = "vplsnet 1
+const CROSSES: &str = r#"
+= The edges set the wire up, and a broadcast crosses it (RFC 4448 section 4).
+: front "connect a b", "settle 20", "frame ca ffffffffffff0200000000010800", "flow 10"
+: taken
+vplsnet 1
 > connect a b
 session a b Initialized
 session b a Initialized
@@ -78,59 +66,63 @@ sent 1 a b w ca 1 1 000101ff00000000ffffffffffff0200000000010800
 > arrive 1
 left cb 1 1 ffffffffffff0200000000010800
 end events=7 in=1 left=1 sent=1 dropped=0
-";
 
-// The wire is set up, and a broadcast crosses it.
-static ONE: Case = Case {
-    front: "\"connect a b\", \"settle 20\", \"frame ca ffffffffffff0200000000010800\", \"flow 10\"",
-    tables: JOINED,
-    taken: Taken::Whole(CROSSES),
-    ..REPLAY
-};
-
-// A replay that sets the wire up; more events follow.
-const SET_UP: Case = Case {
-    front: "\"connect a b\", \"settle 1000\", ",
-    tables: JOINED,
-    ..REPLAY
-};
-
-// The far edge requests VLAN ID 9, and takes the tag off again (RFC 4448 sections 4.3 and 4.4).
-static TAGGED: Case = Case {
-    back: "\"frame ca ffffffffffff0200000000010800\", \"flow 10\"",
-    more: "mode = \"tagged\"\nfar_vlan = 9\ncontrol_word = false\n",
-    taken: Taken::Ends(
-        "",
-        "sent 1 a b w ca 1 1 000101ffffffffffffff020000000001810000090800
+= The far edge requests VLAN ID 9, and takes the tag off again (RFC 4448 sections 4.3 and 4.4).
+: front "connect a b", "settle 1000", 
+: back "frame ca ffffffffffff0200000000010800", "flow 10"
+: more
+mode = "tagged"
+far_vlan = 9
+control_word = false
+: ends
+sent 1 a b w ca 1 1 000101ffffffffffffff020000000001810000090800
 > arrive 1
 left cb 1 1 ffffffffffff0200000000010800
 end events=7 in=1 left=1 sent=1 dropped=0
-",
-    ),
-    ..SET_UP
-};
 
-static TWO_MTUS: Case = Case {
-    back: "\"frame ca ffffffffffff0200000000010800\"",
-    more: "far_mtu = 1400\n",
-    taken: Taken::Ends(
-        "",
-        "> frame ca ffffffffffff0200000000010800
+= The ends tell two MTUs.
+: front "connect a b", "settle 1000", 
+: back "frame ca ffffffffffff0200000000010800"
+: more
+far_mtu = 1400
+: ends
+> frame ca ffffffffffff0200000000010800
 in ca 1 ffffffffffff0200000000010800
 end events=6 in=1 left=0 sent=0 dropped=0
-",
-    ),
-    ..SET_UP
-};
 
-// The first copy is lost, the second is repeated and arrives behind its copy, and the third overtakes both.
-static OVERTAKEN: Case = Case {
-    back: "\"frame ca ffffffffffff0200000000010800\", \"frame ca ffffffffffff0200000000010801\",
-         \"frame ca ffffffffffff0200000000010802\", \"drop 1\", \"again 2\", \"arrive 3\", \"arrive 4\", \"arrive 2\",
-         \"arrive 1\", \"again 1\", \"drop 1\"",
-    taken: Taken::Ends(
-        "",
-        "> drop 1
+"#;
+
+const SIZES: &str = r#"
+: front "connect a b", "settle 1000", "frame ca ffffffffffff020000000001
+: piece 08
+: back ", "flow 1"
+= A broadcast of 1,518 octets: the MTU of 1500 octets, a header of 14, and room for a tag of the customer's own.
+: times 1506
+: ends
+end events=7 in=1 left=1 sent=1 dropped=0
+
+= 1,519 octets.
+: times 1507
+: ends
+dropped a 1 Long
+end events=6 in=1 left=0 sent=0 dropped=1
+
+= 13 octets.
+: times 1
+: ends
+dropped a 1 Short
+end events=6 in=1 left=0 sent=0 dropped=1
+
+"#;
+
+const LOST: &str = r#"
+: front "connect a b", "settle 1000", 
+= The first copy is lost, the second is repeated and arrives behind its copy, and the third overtakes both.
+: back "frame ca ffffffffffff0200000000010800", "frame ca ffffffffffff0200000000010801",
+"frame ca ffffffffffff0200000000010802", "drop 1", "again 2", "arrive 3", "arrive 4", "arrive 2",
+"arrive 1", "again 1", "drop 1"
+: ends
+> drop 1
 > again 2
 copied 4 2
 > arrive 3
@@ -146,100 +138,66 @@ idle
 > drop 1
 idle
 end events=16 in=3 left=3 sent=3 dropped=0
-",
-    ),
-    ..SET_UP
-};
 
-static WITHDRAWN: Case = Case {
-    back: "\"frame ca ffffffffffff0200000000010800\", \"wire b w off\", \"settle 20\", \"wire b w on\", \"settle 20\",
-         \"arrive 1\"",
-    taken: Taken::Ends(
-        "",
-        "> arrive 1
+= The label is withdrawn.
+: back "frame ca ffffffffffff0200000000010800", "wire b w off", "settle 20", "wire b w on", "settle 20",
+"arrive 1"
+: ends
+> arrive 1
 dropped b 1 NoLabel
 end events=12 in=1 left=0 sent=1 dropped=1
-",
-    ),
-    ..SET_UP
-};
 
-// The label was that of the first service; after the restart no service has it.
-static RESTARTED: Case = Case {
-    back: "\"frame ca ffffffffffff0200000000010800\", \"restart b\", \"settle 20\", \"connect a b\", \"settle 20\", \"arrive 1\"",
-    more: SECOND,
-    taken: Taken::Ends(
-        "",
-        "> arrive 1
+= The label was that of the first of two services; after the restart no service has it.
+: back "frame ca ffffffffffff0200000000010800", "restart b", "settle 20", "connect a b", "settle 20", "arrive 1"
+: more
+[[service]]
+name = "r"
+[[circuit]]
+name = "ra"
+edge = "a"
+service = "r"
+[[circuit]]
+name = "rb"
+edge = "b"
+service = "r"
+[[wire]]
+name = "v"
+service = "r"
+class = "mesh"
+pw_id = 200
+path = ["a", "b"]
+: ends
+> arrive 1
 dropped b 1 NoLabel
 end events=14 in=1 left=0 sent=1 dropped=1
-",
-    ),
-    ..SET_UP
-};
 
-// A broadcast of 1,518 octets: the MTU of 1500 octets, a header of 14, and room for a tag of the customer's own.
-const LARGEST: Case = Case {
-    front: "\"connect a b\", \"settle 1000\", \"frame ca ffffffffffff020000000001",
-    piece: "08",
-    times: 1_506,
-    back: "\", \"flow 1\"",
-    taken: Taken::Ends("", "end events=7 in=1 left=1 sent=1 dropped=0\n"),
-    ..SET_UP
-};
+"#;
 
-static SIZES: [Case; 3] = [
-    LARGEST,
-    // 1,519 octets, and 13.
-    Case {
-        times: 1_507,
-        taken: Taken::Ends(
-            "",
-            "dropped a 1 Long\nend events=6 in=1 left=0 sent=0 dropped=1\n",
-        ),
-        ..LARGEST
-    },
-    Case {
-        times: 1,
-        taken: Taken::Ends(
-            "",
-            "dropped a 1 Short\nend events=6 in=1 left=0 sent=0 dropped=1\n",
-        ),
-        ..LARGEST
-    },
-];
+const CROWDED: &str = r#"
+= 65,537 broadcasts, of which none arrives: 65,536 packets are sent, and the next frame is refused.
+: front "connect a b", "settle 1000"
+: piece , "frame ca ffffffffffff0200000000010800"
+: times 65537
+: room 20000000
+: told 7 vplsnet: stopped: Crowded 65536 65542
+: ends
+stop Crowded 65536
 
-// 65,537 broadcasts, of which none arrives: 65,536 packets are sent, and the next frame is refused.
-static CROWDED: Case = Case {
-    front: "\"connect a b\", \"settle 1000\"",
-    piece: ", \"frame ca ffffffffffff0200000000010800\"",
-    times: 65_537,
-    room: 20_000_000,
-    status: 7,
-    taken: Taken::Ends("", "stop Crowded 65536\n"),
-    told: "vplsnet: stopped: Crowded 65536 65542",
-    ..SET_UP
-};
+"#;
 
 #[test]
 fn crosses_a_mesh_wire(rt: HostRuntime) {
-    let alloc = rt.alloc();
-    plays(&rt, alloc, &ONE);
-    plays(&rt, alloc, &TAGGED);
-    plays(&rt, alloc, &TWO_MTUS);
-    all_play(&rt, alloc, SIZES.as_slice());
+    plays(&rt, rt.alloc(), JOINED, CROSSES);
+    plays(&rt, rt.alloc(), JOINED, SIZES);
 }
 
 #[test]
 fn is_lost_overtaken_and_dropped(rt: HostRuntime) {
-    let alloc = rt.alloc();
-    plays(&rt, alloc, &OVERTAKEN);
-    plays(&rt, alloc, &WITHDRAWN);
-    plays(&rt, alloc, &RESTARTED);
+    plays(&rt, rt.alloc(), JOINED, LOST);
 }
 
 // A test has a minute, so what takes long is a test of its own.
 #[test]
 fn stops_where_the_network_is_crowded(rt: HostRuntime) {
-    plays(&rt, rt.alloc(), &CROWDED);
+    plays(&rt, rt.alloc(), JOINED, CROWDED);
 }

@@ -1,54 +1,50 @@
 //! The command `migrate`: what it writes, and what is refused before.
 
-use crate::around::{Case, REPLAY, Taken, all_play, rows_play};
+use crate::around::{lines_play, plays};
 
-// The text of version 2 of a scenario without rows or events.
-const NOTHING: &str = "events = []\nversion = 2\n";
-
-const MIGRATE: Case = Case {
-    words: "migrate f",
-    entries: Some(0),
-    taken: Taken::Whole(NOTHING),
-    ..REPLAY
-};
-
-// Two edges and a mesh wire of version 2.
-const WIRE: &str =
-    "edge = [{ name = \"a\", address = \"10.0.0.1\" }, { name = \"b\", address = \"10.0.0.2\" }]
-service = [{ name = \"s\" }]
-[[wire]]
-name = \"w\"
-service = \"s\"
-class = \"mesh\"
-path = [\"a\", \"b\"]
-pw_id = 1
+// A scenario of version 1 without rows or events.
+const MIGRATE: &str = "
+: words migrate f
+: opening version = 1
+events = [
+: closing ]
+: entries 0
 ";
 
 // A document of either version, and no document.
-static MIGRATED: [Case; 4] = [
-    MIGRATE,
-    Case {
-        opening: "version = 2\nevents = [",
-        ..MIGRATE
-    },
-    Case {
-        opening: "version = 3\nevents = [",
-        status: 5,
-        taken: Taken::Whole(""),
-        told: "vplsnet: scenario: Version",
-        ..MIGRATE
-    },
-    // A key of the far end stands in a table of its own.
-    Case {
-        opening: "version = 2\nevents = [",
-        tables: WIRE,
-        wires: "far_mtu = 1400\n",
-        status: 5,
-        taken: Taken::Whole(""),
-        told: "vplsnet: scenario: UnknownKey wire 1 far_mtu",
-        ..MIGRATE
-    },
-];
+const MIGRATED: &str = r#"
+= Version 1.
+: taken
+events = []
+version = 2
+
+= Version 2.
+: opening version = 2
+events = [
+: taken
+events = []
+version = 2
+
+= Another version.
+: opening version = 3
+events = [
+: told 5 vplsnet: scenario: Version
+= A key of the far end stands in a table of its own.
+: opening version = 2
+events = [
+: tables
+edge = [{ name = "a", address = "10.0.0.1" }, { name = "b", address = "10.0.0.2" }]
+service = [{ name = "s" }]
+[[wire]]
+name = "w"
+service = "s"
+class = "mesh"
+path = ["a", "b"]
+pw_id = 1
+: wires
+far_mtu = 1400
+: told 5 vplsnet: scenario: UnknownKey wire 1 far_mtu
+"#;
 
 // Words that are no row of the table.
 const USAGE_ROWS: &str = "
@@ -56,40 +52,29 @@ const USAGE_ROWS: &str = "
     $ migrate f f -> ! 2 vplsnet: usage
 ";
 
-// A call of the shelf fails, or one of the sink, which took a front before.
-static FAILED: [Case; 3] = [
-    Case {
-        shelf_fails: 1,
-        status: 3,
-        taken: Taken::Whole(""),
-        told: "vplsnet: read fault",
-        ..MIGRATE
-    },
-    Case {
-        sink_fails: 1,
-        status: 4,
-        taken: Taken::Whole(""),
-        told: "vplsnet: write fault",
-        ..MIGRATE
-    },
-    Case {
-        room: 6,
-        status: 4,
-        taken: Taken::Whole("events"),
-        told: "vplsnet: write fault",
-        ..MIGRATE
-    },
-];
+const FAILED: &str = "
+= A call of the shelf fails.
+: shelf 1
+: told 3 vplsnet: read fault
+= A call of the sink fails.
+: sink 1
+: told 4 vplsnet: write fault
+= The sink takes a front.
+: room 6
+: told 4 vplsnet: write fault
+: taken
+events = []
+version = 2
 
-static MIGRATION: Case = MIGRATE;
+";
 
 #[test]
 fn migrates_what_it_reads(rt: HostRuntime) {
-    all_play(&rt, rt.alloc(), MIGRATED.as_slice());
+    plays(&rt, rt.alloc(), MIGRATE, MIGRATED);
 }
 
 #[test]
 fn migrates_nothing_else(rt: HostRuntime) {
-    rows_play(&rt, rt.alloc(), &MIGRATION, USAGE_ROWS);
-    all_play(&rt, rt.alloc(), FAILED.as_slice());
+    lines_play(&rt, rt.alloc(), MIGRATE, USAGE_ROWS);
+    plays(&rt, rt.alloc(), MIGRATE, FAILED);
 }

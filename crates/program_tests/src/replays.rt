@@ -1,52 +1,105 @@
 //! Whole replays of one edge, and how a call ends that is not done.
 
-use crate::around::{Case, ONE_EDGE, REPLAY, Taken, all_play, plays, plays_in, rows_play};
-use std::alloc::Global;
-use std::process::Abort;
+use crate::around::{lines_play, plays, plays_in, section};
 
-const BROADCAST: &str = "events = [\"frame c1 ffffffffffff0200000000010800\"]";
+// A replay over one edge and three circuits of a service, whose events follow.
+const TABLED: &str = r#"
+: words replay f
+: opening version = 1
 
-const REPORT: &str = "vplsnet 1
+: tables
+[[edge]]
+name = "e"
+address = "10.0.0.1"
+[[service]]
+name = "s"
+[[circuit]]
+name = "c1"
+edge = "e"
+service = "s"
+[[circuit]]
+name = "c2"
+edge = "e"
+service = "s"
+[[circuit]]
+name = "c3"
+edge = "e"
+service = "s"
+"#;
+
+const DONE: &str = "
+= No events.
+: taken
+vplsnet 1
+end events=0 in=0 left=0 sent=0 dropped=0
+
+";
+
+// The replay of a broadcast in an outside of which a call fails. The file is read by two calls, and the report is taken by one.
+const FAILING: &str = r#"
+: front events = ["frame c1 ffffffffffff0200000000010800"]
+: taken
+vplsnet 1
 > frame c1 ffffffffffff0200000000010800
 in c1 1 ffffffffffff0200000000010800
 left c2 1 0 ffffffffffff0200000000010800
 left c3 1 0 ffffffffffff0200000000010800
 end events=1 in=1 left=2 sent=0 dropped=0
-";
 
-// A replay over these tables, whose events follow.
-const TABLED: Case = Case {
-    opening: "version = 1\n",
-    closing: "\n",
-    tables: ONE_EDGE,
-    ..REPLAY
-};
+= No call fails.
+: entries 4
+= The first call of the shelf fails.
+: shelf 1
+: room 1000
+: told 3 vplsnet: read fault
+: taken
 
-// A replay of the broadcast.
-const FLOOD: Case = Case {
-    front: BROADCAST,
-    entries: Some(4),
-    taken: Taken::Whole(REPORT),
-    ..TABLED
-};
+= The second call of the shelf fails.
+: shelf 2
+: room 1000
+: told 3 vplsnet: read fault
+: taken
 
-const NO_EVENTS: &str = "vplsnet 1\nend events=0 in=0 left=0 sent=0 dropped=0\n";
+= The third call of the shelf would fail.
+: shelf 3
+: room 1000
+: entries 4
+= The first call of the sink fails.
+: sink 1
+: room 1000
+: entries 4
+: told 4 vplsnet: write fault
+: taken
 
-static DONE: [Case; 2] = [
-    FLOOD,
-    Case {
-        taken: Taken::Whole(NO_EVENTS),
-        ..TABLED
-    },
-];
+= The same where there is more room.
+: sink 1
+: told 4 vplsnet: write fault
+: taken
 
-// Words that are no command's.
-static USAGE: Case = Case {
-    front: BROADCAST,
-    status: 2,
-    told: "vplsnet: usage",
-    ..TABLED
-};
+= The second call of the sink would fail.
+: sink 2
+: room 1000
+: entries 4
+= The file is not there.
+: words replay g
+: told 3 vplsnet: read fault
+: taken
+
+"#;
+
+// The same into a sink that is full before its end.
+const FULL: &str = r#"
+: front events = ["frame c1 ffffffffffff0200000000010800"]
+: taken
+vplsnet 1
+> frame c1 ffffffffffff0200000000010800
+in c1 1 ffffffffffff0200000000010800
+left c2 1 0 ffffffffffff0200000000010800
+left c3 1 0 ffffffffffff0200000000010800
+end events=1 in=1 left=2 sent=0 dropped=0
+
+: told 4 vplsnet: write fault
+"#;
 
 const USAGE_ROWS: &str = "
     $  -> ! 2 vplsnet: usage
@@ -56,29 +109,6 @@ const USAGE_ROWS: &str = "
     $ report f -> ! 2 vplsnet: usage
 ";
 
-static UNDONE: [Case; 2] = [
-    Case {
-        words: "replay g",
-        front: BROADCAST,
-        status: 3,
-        told: "vplsnet: read fault",
-        ..TABLED
-    },
-    Case {
-        front: BROADCAST,
-        sink_fails: 1,
-        status: 4,
-        told: "vplsnet: write fault",
-        ..TABLED
-    },
-];
-
-// A scenario that is refused.
-const REFUSED: Case = Case {
-    status: 5,
-    ..TABLED
-};
-
 const REFUSED_ROWS: &str = r#"
     events = 1 -> ! 5 vplsnet: scenario: WrongKind top 0 events
     events = -> ! 5 vplsnet: scenario: NotToml
@@ -87,96 +117,45 @@ const REFUSED_ROWS: &str = r#"
     "no key" = 1 -> ! 5 vplsnet: scenario: UnknownKey top 0 no?key
 "#;
 
-static REPEATED: Case = Case {
-    front: "[[circuit]]\nname = \"c2\"\nedge = \"e\"\nservice = \"s\"",
-    told: "vplsnet: scenario: Plan RepeatedName circuit 3 name",
-    ..REFUSED
-};
+const REPEATED: &str = r#"
+= A name that is repeated.
+: front [[circuit]]
+name = "c2"
+edge = "e"
+service = "s"
+: told 5 vplsnet: scenario: Plan RepeatedName circuit 3 name
+"#;
 
-// A file of 8,388,608 octets, and one of an octet more.
-const LONGEST: Case = Case {
-    opening: "",
-    piece: "================================================================",
-    times: 131_072,
-    closing: "",
-    status: 5,
-    told: "vplsnet: scenario: NotToml",
-    ..REPLAY
-};
+// A file of 8,388,608 octets.
+const LONGEST: &str = "
+: words replay f
+: piece ================================================================
+: times 131072
+";
 
-static LENGTHS: [Case; 2] = [
-    LONGEST,
-    Case {
-        back: "=",
-        told: "vplsnet: f is longer than 8388608",
-        ..LONGEST
-    },
-];
-
-// The replay in an outside of which a call fails. The file is read by two calls, and the report is taken by one.
-const CLOSE: Case = Case {
-    room: 1000,
-    ..FLOOD
-};
-
-static FAILING: [Case; 5] = [
-    Case {
-        shelf_fails: 1,
-        status: 3,
-        entries: None,
-        taken: Taken::Whole(""),
-        told: "vplsnet: read fault",
-        ..CLOSE
-    },
-    Case {
-        shelf_fails: 2,
-        status: 3,
-        entries: None,
-        taken: Taken::Whole(""),
-        told: "vplsnet: read fault",
-        ..CLOSE
-    },
-    Case {
-        shelf_fails: 3,
-        ..CLOSE
-    },
-    Case {
-        sink_fails: 1,
-        status: 4,
-        taken: Taken::Whole(""),
-        told: "vplsnet: write fault",
-        ..CLOSE
-    },
-    Case {
-        sink_fails: 2,
-        ..CLOSE
-    },
-];
-
-// A replay into a sink that is full before its end.
-static FULL: Case = Case {
-    status: 4,
-    told: "vplsnet: write fault",
-    ..FLOOD
-};
-
-static REFUSAL: Case = REFUSED;
+const LENGTHS: &str = "
+= As long as may be.
+: told 5 vplsnet: scenario: NotToml
+= An octet more.
+: back =
+: told 5 vplsnet: f is longer than 8388608
+";
 
 #[test]
 fn ends_with_a_status_and_a_line(rt: HostRuntime) {
     let alloc = rt.alloc();
-    all_play(&rt, alloc, DONE.as_slice());
-    rows_play(&rt, alloc, &USAGE, USAGE_ROWS);
-    all_play(&rt, alloc, UNDONE.as_slice());
-    rows_play(&rt, alloc, &REFUSAL, REFUSED_ROWS);
-    plays(&rt, alloc, &REPEATED);
-    all_play(&rt, alloc, LENGTHS.as_slice());
-    all_play(&rt, alloc, FAILING.as_slice());
+    plays(&rt, alloc, TABLED, DONE);
+    plays(&rt, alloc, TABLED, FAILING);
+    lines_play(&rt, alloc, TABLED, USAGE_ROWS);
+    lines_play(&rt, alloc, TABLED, REFUSED_ROWS);
+    plays(&rt, alloc, TABLED, REPEATED);
+    plays(&rt, alloc, LONGEST, LENGTHS);
 }
 
 #[test]
 fn stops_where_the_sink_is_full(rt: HostRuntime) {
-    for room in 0..REPORT.len() {
-        plays_in(&rt, rt.alloc(), &FULL, room, Taken::Front(REPORT, room));
+    let report = section(FULL, "\n: taken\n").expect(&rt, "a report");
+    for room in 0..report.len() {
+        plays_in(&rt, rt.alloc(), TABLED, FULL, room);
     }
 }

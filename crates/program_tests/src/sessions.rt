@@ -1,30 +1,31 @@
 //! Whole replays of sessions between edges.
 
-use crate::around::{Case, REPLAY, Taken, plays};
+use crate::around::{REPLAY, plays};
 
-// Two edges, joined by a mesh wire of one service.
-const JOINED: &str = "
+const CONNECTS: &str = r#"
+= The wire of two edges is off at both of them, and they connect: each PDU is whole (RFC 5036 sections 2.5.3, 3.5.3 and 3.5.4).
+: front "wire a w off", "wire b w off", "connect a b", "settle 20"
+: tables
 [[edge]]
-name = \"a\"
-address = \"10.0.0.1\"
+name = "a"
+address = "10.0.0.1"
 [[edge]]
-name = \"b\"
-address = \"10.0.0.2\"
+name = "b"
+address = "10.0.0.2"
 [[service]]
-name = \"s\"
+name = "s"
 [[circuit]]
-name = \"ca\"
-edge = \"a\"
-service = \"s\"
+name = "ca"
+edge = "a"
+service = "s"
 [[wire]]
-name = \"w\"
-service = \"s\"
+name = "w"
+service = "s"
 pw_id = 100
-path = [\"a\", \"b\"]
-";
-
-// What a session is told and puts as it comes up, each PDU whole (RFC 5036 sections 2.5.3, 3.5.3 and 3.5.4); its wire is off.
-const COMES_UP: &str = "vplsnet 1
+path = ["a", "b"]
+class = "mesh"
+: taken
+vplsnet 1
 > wire a w off
 > wire b w off
 > connect a b
@@ -43,19 +44,10 @@ session b a Operational
 > deliver b a 65535
 session a b Operational
 end events=6 in=0 left=0 sent=0 dropped=0
-";
 
-// The wire is off at both edges, and they connect.
-static CONNECTS: Case = Case {
-    front: "\"wire a w off\", \"wire b w off\", \"connect a b\", \"settle 20\"",
-    tables: JOINED,
-    more: "class = \"mesh\"",
-    taken: Taken::Whole(COMES_UP),
-    ..REPLAY
-};
+"#;
 
 #[test]
 fn brings_a_session_up(rt: HostRuntime) {
-    let alloc = rt.alloc();
-    plays(&rt, alloc, &CONNECTS);
+    plays(&rt, rt.alloc(), REPLAY, CONNECTS);
 }

@@ -1,103 +1,38 @@
 //! Whole replays over wires with switching points (RFC 6073): a broadcast over twelve segments, and what becomes of a wire whose
 //! middle edge restarts, loses one of its two sessions, or passes a withdrawal of addresses on.
 
-use crate::around::{Case, REPLAY, Taken, plays};
+use crate::around::{REPLAY, plays};
 
-// A service with a circuit at each of two spoke edges. Both spokes and the mesh wire between their core edges have three switching
-// points, each wire those of its own.
-const CHAINS: &str = "
+// Every switching point gives the packet the label of the next one and takes one from its TTL (RFC 6073 section 4, RFC 3032 section 2.4.2).
+const SEGMENTS: &str = r#"
+= Up a spoke, over the mesh and down a spoke, of four segments each.
+: front "connect a p3", "connect a q1", "connect b q3", "connect b r3", "connect x p1", "connect y r1", "connect p1 p2", "connect p2 p3", "connect q1 q2", "connect q2 q3", "connect r1 r2", "connect r2 r3", "settle 1000"
+: back , "frame cx ffffffffffff0200000000010800", "flow 100"
+: tables
 edge = [
-  { name = \"a\", address = \"10.0.0.1\" },
-  { name = \"b\", address = \"10.0.0.2\" },
-  { name = \"x\", address = \"10.0.0.3\" },
-  { name = \"y\", address = \"10.0.0.4\" },
-  { name = \"p1\", address = \"10.0.0.5\" },
-  { name = \"p2\", address = \"10.0.0.6\" },
-  { name = \"p3\", address = \"10.0.0.7\" },
-  { name = \"q1\", address = \"10.0.0.8\" },
-  { name = \"q2\", address = \"10.0.0.9\" },
-  { name = \"q3\", address = \"10.0.0.10\" },
-  { name = \"r1\", address = \"10.0.0.11\" },
-  { name = \"r2\", address = \"10.0.0.12\" },
-  { name = \"r3\", address = \"10.0.0.13\" },
+  { name = "a", address = "10.0.0.1" },
+  { name = "b", address = "10.0.0.2" },
+  { name = "x", address = "10.0.0.3" },
+  { name = "y", address = "10.0.0.4" },
+  { name = "p1", address = "10.0.0.5" },
+  { name = "p2", address = "10.0.0.6" },
+  { name = "p3", address = "10.0.0.7" },
+  { name = "q1", address = "10.0.0.8" },
+  { name = "q2", address = "10.0.0.9" },
+  { name = "q3", address = "10.0.0.10" },
+  { name = "r1", address = "10.0.0.11" },
+  { name = "r2", address = "10.0.0.12" },
+  { name = "r3", address = "10.0.0.13" },
 ]
-service = [{ name = \"s\" }]
-circuit = [{ name = \"cx\", edge = \"x\", service = \"s\" }, { name = \"cy\", edge = \"y\", service = \"s\" }]
+service = [{ name = "s" }]
+circuit = [{ name = "cx", edge = "x", service = "s" }, { name = "cy", edge = "y", service = "s" }]
 wire = [
-  { name = \"xa\", service = \"s\", class = \"spoke\", pw_id = 201, path = [\"x\", \"p1\", \"p2\", \"p3\", \"a\"] },
-  { name = \"yb\", service = \"s\", class = \"spoke\", pw_id = 202, path = [\"y\", \"r1\", \"r2\", \"r3\", \"b\"] },
-  { name = \"ab\", service = \"s\", class = \"mesh\", pw_id = 100, path = [\"a\", \"q1\", \"q2\", \"q3\", \"b\"] },
+  { name = "xa", service = "s", class = "spoke", pw_id = 201, path = ["x", "p1", "p2", "p3", "a"] },
+  { name = "yb", service = "s", class = "spoke", pw_id = 202, path = ["y", "r1", "r2", "r3", "b"] },
+  { name = "ab", service = "s", class = "mesh", pw_id = 100, path = ["a", "q1", "q2", "q3", "b"] },
 ]
-";
-
-// The same with a circuit at each core edge too, and all three wires over the same three switching points, each in an order of its own.
-const SHARED: &str = "
-edge = [
-  { name = \"a\", address = \"10.0.0.1\" },
-  { name = \"b\", address = \"10.0.0.2\" },
-  { name = \"x\", address = \"10.0.0.3\" },
-  { name = \"y\", address = \"10.0.0.4\" },
-  { name = \"m\", address = \"10.0.0.5\" },
-  { name = \"n\", address = \"10.0.0.6\" },
-  { name = \"o\", address = \"10.0.0.7\" },
-]
-service = [{ name = \"s\" }]
-circuit = [
-  { name = \"ca\", edge = \"a\", service = \"s\" },
-  { name = \"cb\", edge = \"b\", service = \"s\" },
-  { name = \"cx\", edge = \"x\", service = \"s\" },
-  { name = \"cy\", edge = \"y\", service = \"s\" },
-]
-wire = [
-  { name = \"xa\", service = \"s\", class = \"spoke\", pw_id = 201, path = [\"x\", \"m\", \"n\", \"o\", \"a\"] },
-  { name = \"yb\", service = \"s\", class = \"spoke\", pw_id = 202, path = [\"y\", \"n\", \"m\", \"o\", \"b\"] },
-  { name = \"ab\", service = \"s\", class = \"mesh\", pw_id = 100, path = [\"a\", \"o\", \"m\", \"n\", \"b\"] },
-]
-";
-
-// Three edges, and a mesh wire between the first and the last of them, with a circuit at each.
-const THREE: &str = "
-edge = [
-  { name = \"a\", address = \"10.0.0.1\" },
-  { name = \"b\", address = \"10.0.0.2\" },
-  { name = \"c\", address = \"10.0.0.3\" },
-]
-service = [{ name = \"s\" }]
-circuit = [{ name = \"ca\", edge = \"a\", service = \"s\" }, { name = \"cc\", edge = \"c\", service = \"s\" }]
-";
-
-const THROUGH: &str =
-    "wire = [{ name = \"w\", service = \"s\", class = \"mesh\", pw_id = 100, path = [\"a\", \"b\", \"c\"] }]\n";
-
-// A wire that comes back to where it begins.
-const BACK: &str =
-    "wire = [{ name = \"w\", service = \"s\", class = \"mesh\", pw_id = 100, path = [\"a\", \"b\", \"a\"] }]\n";
-
-// A spoke edge with two spokes, each with a switching point of its own, and a circuit at each edge that ends them.
-const TWO_SPOKES: &str = "
-edge = [
-  { name = \"a\", address = \"10.0.0.1\" },
-  { name = \"b\", address = \"10.0.0.2\" },
-  { name = \"x\", address = \"10.0.0.3\" },
-  { name = \"p\", address = \"10.0.0.4\" },
-  { name = \"q\", address = \"10.0.0.5\" },
-]
-service = [{ name = \"s\" }]
-circuit = [
-  { name = \"ca\", edge = \"a\", service = \"s\" },
-  { name = \"cb\", edge = \"b\", service = \"s\" },
-  { name = \"cx\", edge = \"x\", service = \"s\" },
-]
-wire = [
-  { name = \"ab\", service = \"s\", class = \"mesh\", pw_id = 100, path = [\"a\", \"b\"] },
-  { name = \"xa\", service = \"s\", class = \"spoke\", pw_id = 201, path = [\"x\", \"p\", \"a\"], priority = 10 },
-  { name = \"xb\", service = \"s\", class = \"spoke\", pw_id = 202, path = [\"x\", \"q\", \"b\"], priority = 20 },
-]
-";
-
-// Up a spoke, over the mesh and down a spoke, of four segments each. Every switching point gives the packet the label of the next one and
-// takes one from its TTL (RFC 6073 section 4, RFC 3032 section 2.4.2).
-const TWELVE_SEGMENTS: &str = "> frame cx ffffffffffff0200000000010800
+: ends
+> frame cx ffffffffffff0200000000010800
 in cx 1 ffffffffffff0200000000010800
 sent 1 x p1 xa cx 1 1 000111ff00000000ffffffffffff0200000000010800
 > arrive 1
@@ -125,10 +60,34 @@ sent 12 r1 y yb yb 1 12 000101fc00000000ffffffffffff0200000000010800
 > arrive 12
 left cy 1 12 ffffffffffff0200000000010800
 end events=94 in=1 left=1 sent=12 dropped=0
-";
 
-// The same where the switching points pass three wires, and the answer.
-const AND_BACK: &str = "> frame cx ffffffffffff0200000000010800
+= The same where the switching points pass three wires, and the answer.
+: front "connect a o", "connect b n", "connect b o", "connect x m", "connect y n", "connect m n", "connect m o", "connect n o", "settle 1000"
+: back , "frame cx ffffffffffff0200000000010800", "flow 100", "frame cy 0200000000010200000000020800", "flow 100"
+: tables
+edge = [
+  { name = "a", address = "10.0.0.1" },
+  { name = "b", address = "10.0.0.2" },
+  { name = "x", address = "10.0.0.3" },
+  { name = "y", address = "10.0.0.4" },
+  { name = "m", address = "10.0.0.5" },
+  { name = "n", address = "10.0.0.6" },
+  { name = "o", address = "10.0.0.7" },
+]
+service = [{ name = "s" }]
+circuit = [
+  { name = "ca", edge = "a", service = "s" },
+  { name = "cb", edge = "b", service = "s" },
+  { name = "cx", edge = "x", service = "s" },
+  { name = "cy", edge = "y", service = "s" },
+]
+wire = [
+  { name = "xa", service = "s", class = "spoke", pw_id = 201, path = ["x", "m", "n", "o", "a"] },
+  { name = "yb", service = "s", class = "spoke", pw_id = 202, path = ["y", "n", "m", "o", "b"] },
+  { name = "ab", service = "s", class = "mesh", pw_id = 100, path = ["a", "o", "m", "n", "b"] },
+]
+: ends
+> frame cx ffffffffffff0200000000010800
 in cx 1 ffffffffffff0200000000010800
 sent 1 x m xa cx 1 1 000151ff00000000ffffffffffff0200000000010800
 > arrive 1
@@ -185,10 +144,38 @@ sent 24 m x xa xa 2 12 000101fc000000000200000000010200000000020800
 > arrive 24
 left cx 2 12 0200000000010200000000020800
 end events=92 in=2 left=4 sent=24 dropped=0
-";
 
-// The middle edge restarts: its neighbours find their sessions ended, and the packet under way has a label that it does not give again.
-const IS_RESTARTED: &str = "> frame ca ffffffffffff0200000000010800
+= A wire that comes back to where it begins.
+: tables
+edge = [
+  { name = "a", address = "10.0.0.1" },
+  { name = "b", address = "10.0.0.2" },
+  { name = "c", address = "10.0.0.3" },
+]
+service = [{ name = "s" }]
+circuit = [{ name = "ca", edge = "a", service = "s" }, { name = "cc", edge = "c", service = "s" }]
+wire = [{ name = "w", service = "s", class = "mesh", pw_id = 100, path = ["a", "b", "a"] }]
+: told 5 vplsnet: scenario: Plan PathRepeats wire 1 path
+"#;
+
+// Three edges, and a mesh wire between the first and the last of them, with a circuit at each. Where the middle edge loses its session, it
+// withdraws the label that it had told the first one, which has nothing to send by then, and tells another one once the session is up again
+// (RFC 6073 section 7).
+const MIDDLE: &str = r#"
+: tables
+edge = [
+  { name = "a", address = "10.0.0.1" },
+  { name = "b", address = "10.0.0.2" },
+  { name = "c", address = "10.0.0.3" },
+]
+service = [{ name = "s" }]
+circuit = [{ name = "ca", edge = "a", service = "s" }, { name = "cc", edge = "c", service = "s" }]
+wire = [{ name = "w", service = "s", class = "mesh", pw_id = 100, path = ["a", "b", "c"] }]
+= The middle edge restarts: its neighbours find their sessions ended, and the packet under way has a label that it does not give again.
+: front "connect a b", "connect b c", "settle 1000"
+: back , "frame ca ffffffffffff0200000000010800", "restart b", "arrive 1", "settle 1000", "connect a b", "connect b c", "settle 1000", "frame ca ffffffffffff0200000000010800", "flow 100"
+: ends
+> frame ca ffffffffffff0200000000010800
 in ca 1 ffffffffffff0200000000010800
 sent 1 a b w ca 1 1 000111ff00000000ffffffffffff0200000000010800
 > restart b
@@ -249,11 +236,12 @@ sent 3 b c w w 2 2 000111fe00000000ffffffffffff0200000000010800
 > arrive 3
 left cc 2 2 ffffffffffff0200000000010800
 end events=30 in=2 left=1 sent=3 dropped=1
-";
 
-// The middle edge loses its session with the last one: it withdraws the label that it had told the first one, which has nothing to send by
-// then, and tells another one once the session is up again (RFC 6073 section 7).
-const IS_CUT: &str = "> lose b c
+= The middle edge loses its session with the last one.
+: front "connect a b", "connect b c", "settle 1000"
+: back , "lose b c", "frame ca ffffffffffff0200000000010800", "flow 1", "settle 1000", "connect b c", "settle 1000", "frame cc ffffffffffff0200000000010800", "flow 100"
+: ends
+> lose b c
 session b c Ended:Closed
 said b a 000100260a00000200000402001c000000040100000c8080050400000000000000640200000400000011
 > frame ca ffffffffffff0200000000010800
@@ -299,11 +287,36 @@ sent 3 b a w w 2 2 000101fe00000000ffffffffffff0200000000010800
 > arrive 3
 left ca 2 2 ffffffffffff0200000000010800
 end events=26 in=2 left=1 sent=3 dropped=1
-";
 
-// The middle edges pass on the status of each spoke, and the withdrawals of addresses that follow it (RFC 6073 section 10, RFC 4762
-// section 6.2). Then the station is found by the other spoke.
-const MOVES: &str = "> priority x xb 5
+"#;
+
+// A spoke edge with two spokes, each with a switching point of its own, and a circuit at each edge that ends them. Then the station is
+// found by the other spoke.
+const MOVES: &str = r#"
+= The middle edges pass on the status of each spoke, and the withdrawals of addresses that follow it (RFC 6073 section 10, RFC 4762 section 6.2).
+: front "connect a b", "connect a p", "connect b q", "connect x p", "connect x q", "settle 1000"
+: back , "frame cx ffffffffffff0200000000010800", "flow 100", "priority x xb 5", "settle 1000", "frame ca 0200000000010200000000020800", "flow 100"
+: tables
+edge = [
+  { name = "a", address = "10.0.0.1" },
+  { name = "b", address = "10.0.0.2" },
+  { name = "x", address = "10.0.0.3" },
+  { name = "p", address = "10.0.0.4" },
+  { name = "q", address = "10.0.0.5" },
+]
+service = [{ name = "s" }]
+circuit = [
+  { name = "ca", edge = "a", service = "s" },
+  { name = "cb", edge = "b", service = "s" },
+  { name = "cx", edge = "x", service = "s" },
+]
+wire = [
+  { name = "ab", service = "s", class = "mesh", pw_id = 100, path = ["a", "b"] },
+  { name = "xa", service = "s", class = "spoke", pw_id = 201, path = ["x", "p", "a"], priority = 10 },
+  { name = "xb", service = "s", class = "spoke", pw_id = 202, path = ["x", "q", "b"], priority = 20 },
+]
+: ends
+> priority x xb 5
 said x p 000100340a00000300000001002a000000060300000a00000028000000000000896a0004000000200100000c8080050400000000000000c9
 said x q 000100340a00000300000001002a000000040300000a00000028000000000000896a0004000000000100000c8080050400000000000000ca
 said x q 000100220a000003000003010018000000050100000c8080050400000000000000ca84040000
@@ -335,70 +348,16 @@ sent 6 q x xb xb 2 3 000111fe000000000200000000010200000000020800
 > arrive 6
 left cx 2 3 0200000000010200000000020800
 end events=44 in=2 left=4 sent=6 dropped=0
-";
 
-static CHAINED: Case = Case {
-    front: "\"connect a p3\", \"connect a q1\", \"connect b q3\", \"connect b r3\", \"connect x p1\", \"connect y r1\", \"connect p1 p2\", \"connect p2 p3\", \"connect q1 q2\", \"connect q2 q3\", \"connect r1 r2\", \"connect r2 r3\", \"settle 1000\"",
-    back: ", \"frame cx ffffffffffff0200000000010800\", \"flow 100\"",
-    tables: CHAINS,
-    taken: Taken::Ends("", TWELVE_SEGMENTS),
-    ..REPLAY
-};
-
-static TOGETHER: Case = Case {
-    front: "\"connect a o\", \"connect b n\", \"connect b o\", \"connect x m\", \"connect y n\", \"connect m n\", \"connect m o\", \"connect n o\", \"settle 1000\"",
-    back: ", \"frame cx ffffffffffff0200000000010800\", \"flow 100\", \"frame cy 0200000000010200000000020800\", \"flow 100\"",
-    tables: SHARED,
-    taken: Taken::Ends("", AND_BACK),
-    ..REPLAY
-};
-
-static RESTARTED: Case = Case {
-    front: "\"connect a b\", \"connect b c\", \"settle 1000\"",
-    back: ", \"frame ca ffffffffffff0200000000010800\", \"restart b\", \"arrive 1\", \"settle 1000\", \"connect a b\", \"connect b c\", \"settle 1000\", \"frame ca ffffffffffff0200000000010800\", \"flow 100\"",
-    tables: THREE,
-    wires: THROUGH,
-    taken: Taken::Ends("", IS_RESTARTED),
-    ..REPLAY
-};
-
-static CUT: Case = Case {
-    front: "\"connect a b\", \"connect b c\", \"settle 1000\"",
-    back: ", \"lose b c\", \"frame ca ffffffffffff0200000000010800\", \"flow 1\", \"settle 1000\", \"connect b c\", \"settle 1000\", \"frame cc ffffffffffff0200000000010800\", \"flow 100\"",
-    tables: THREE,
-    wires: THROUGH,
-    taken: Taken::Ends("", IS_CUT),
-    ..REPLAY
-};
-
-static MOVED: Case = Case {
-    front: "\"connect a b\", \"connect a p\", \"connect b q\", \"connect x p\", \"connect x q\", \"settle 1000\"",
-    back: ", \"frame cx ffffffffffff0200000000010800\", \"flow 100\", \"priority x xb 5\", \"settle 1000\", \"frame ca 0200000000010200000000020800\", \"flow 100\"",
-    tables: TWO_SPOKES,
-    taken: Taken::Ends("", MOVES),
-    ..REPLAY
-};
-
-static REPEATS: Case = Case {
-    tables: THREE,
-    wires: BACK,
-    status: 5,
-    told: "vplsnet: scenario: Plan PathRepeats wire 1 path",
-    ..REPLAY
-};
+"#;
 
 #[test]
 fn crosses_twelve_segments(rt: HostRuntime) {
-    let alloc = rt.alloc();
-    plays(&rt, alloc, &CHAINED);
-    plays(&rt, alloc, &TOGETHER);
-    plays(&rt, alloc, &REPEATS);
+    plays(&rt, rt.alloc(), REPLAY, SEGMENTS);
 }
 
 #[test]
 fn loses_its_middle_edge(rt: HostRuntime) {
-    let alloc = rt.alloc();
-    plays(&rt, alloc, &RESTARTED);
-    plays(&rt, alloc, &CUT);
-    plays(&rt, alloc, &MOVED);
+    plays(&rt, rt.alloc(), REPLAY, MIDDLE);
+    plays(&rt, rt.alloc(), REPLAY, MOVES);
 }
