@@ -8,6 +8,8 @@ mod edge;
 #[cfg(test)]
 mod independent;
 #[cfg(test)]
+mod links;
+#[cfg(test)]
 mod network;
 #[cfg(test)]
 mod octets;

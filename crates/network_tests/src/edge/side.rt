@@ -1,6 +1,7 @@
 //! An edge over a link in memory.
 ghost use Rattle.provider_edge.specs.Taking.{IsInRange};
 
+use crate::links::link_of;
 use crate::scenarios::plan_of;
 use edge_model::{Effects, Input};
 use net_base::{EdgeId, List, MemLink};
@@ -17,27 +18,20 @@ pub struct Side {
     pub handed: usize,
 }
 
-// The numbers of the calls that fail: the one with this number, and none for 0.
-fn failing(rt: &impl Abort, alloc: Global, number: u64) -> List<u64> {
-    let mut numbers = List::new(alloc);
-    if number > 0 {
-        numbers.push(number).expect(rt, "memory");
-    }
-    numbers
-}
-
 // The edge of a scenario with this place.
 fn opened(rt: &impl Abort, alloc: Global, pieces: &[&str], me: EdgeId) -> Edge {
     let plan = plan_of(rt, alloc, pieces);
     assert!(rt; usize::from(me.0) < plan.edges.len());
-    Edge::open(alloc, &plan, me).expect(rt, "memory")
+    let edge = Edge::open(alloc, &plan, me).expect(rt, "memory");
+    drop(plan);
+    edge
 }
 
 /// The edge of a scenario with this place; the call of its link with this number fails, and none for 0.
 pub fn side_of(rt: &impl Abort, alloc: Global, pieces: &[&str], me: EdgeId, fails: u64) -> Side {
     Side {
         edge: opened(rt, alloc, pieces, me),
-        link: MemLink::new(alloc, failing(rt, alloc, fails)).expect(rt, "memory"),
+        link: link_of(rt, alloc, fails),
         effects: Effects {
             idle: true,
             list: List::new(alloc),

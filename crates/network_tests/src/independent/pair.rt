@@ -2,9 +2,10 @@
 ghost use Rattle.std.specs.Prelude.{◌≡◌, is_some};
 ghost use Rattle.independent_model.specs.Wires.{other_end, other_of_two};
 
-use crate::scenarios::{A, B, SHORT_AND_LONG, SITES, plan_of};
+use crate::links::link_of;
+use crate::scenarios::{A, B, plan_of};
 use independent_mode::{IndepEdge, IndepStop, Wish};
-use net_base::{EdgeId, LinkCall, List, MemLink, Plan, WireId};
+use net_base::{EdgeId, LinkCall, MemLink, Plan, WireId};
 use std::alloc::Global;
 use std::process::Abort;
 
@@ -20,27 +21,21 @@ pub struct End {
     way: Vec<u8>,
 }
 
-/// An edge of the two before its first call, with a link of which these calls fail.
-pub fn end_of(rt: &impl Abort, alloc: Global, me: EdgeId, fails: &[u64]) -> End {
-    end_in(rt, alloc, SITES, me, fails)
-}
-
-/// The same of an edge of three, of which the first two have a wire between them and one that goes on to the third.
-pub fn end_of_three(rt: &impl Abort, alloc: Global, me: EdgeId) -> End {
-    end_in(rt, alloc, SHORT_AND_LONG, me, &[])
-}
-
-fn end_in(rt: &impl Abort, alloc: Global, pieces: &[&str], me: EdgeId, fails: &[u64]) -> End {
+// The edge of a scenario with this place.
+fn opened(rt: &impl Abort, alloc: Global, pieces: &[&str], me: EdgeId) -> IndepEdge {
     let plan = plan_of(rt, alloc, pieces);
     assert!(rt; (me.0 as usize) < plan.edges.len());
-    let mut numbers = List::new(alloc);
-    for number in fails.iter() {
-        numbers.push(*number).expect(rt, "memory");
-    }
+    let edge = IndepEdge::open(alloc, &plan, me).expect(rt, "memory");
+    drop(plan);
+    edge
+}
+
+/// The edge of a scenario with this place before its first call; the call of its link with this number fails, and none for 0.
+pub fn end_of(rt: &impl Abort, alloc: Global, pieces: &[&str], me: EdgeId, fails: u64) -> End {
     End {
         me,
-        edge: IndepEdge::open(alloc, &plan, me).expect(rt, "memory"),
-        link: MemLink::new(alloc, numbers).expect(rt, "memory"),
+        edge: opened(rt, alloc, pieces, me),
+        link: link_of(rt, alloc, fails),
         taken: 0,
         way: Vec::new(alloc),
     }

@@ -1,10 +1,10 @@
 //! What two edges tell each other of a wire, row by row.
 
 use crate::independent::pair::{
-    End, calls_so, connected, end_of, end_of_three, has_told, hear, lost, run, set, uses,
+    End, calls_so, connected, end_of, has_told, hear, lost, run, set, uses,
 };
 use crate::octets::{is_same, octets_of};
-use crate::scenarios::{A, B};
+use crate::scenarios::{A, B, SHORT_AND_LONG, SITES};
 use independent_mode::{IndepStop, Wish};
 use ldp_stream::StreamFault;
 use std::alloc::Global;
@@ -43,104 +43,70 @@ fn stands(rt: &impl Abort, alloc: Global, end: &End, told: &str, used: bool) -> 
     has_told(end, statuses.as_slice()) && uses(rt, end) == used
 }
 
-// Whether two ends come to what a row says of them.
-fn comes_to(rt: &impl Abort, alloc: Global, steps: &str, words: &str) -> bool {
-    let mut a = end_of(rt, alloc, A, &[]);
-    let mut b = end_of(rt, alloc, B, &[]);
-    run(rt, alloc, &mut a, &mut b, steps);
+// Two ends do the steps of a row, and come to what it says of them.
+fn come_to(rt: &impl Abort, alloc: Global, a: &mut End, b: &mut End, row: (&str, &str)) {
+    let (steps, words) = row;
+    run(rt, alloc, a, b, steps);
     let (of_a, more) = words.split_once(' ').expect(rt, "two words");
     let (of_b, used) = more.split_once(' ').expect(rt, "two words");
     let used = is_same(used.as_bytes(), b"used");
-    stands(rt, alloc, &a, of_a, used) && stands(rt, alloc, &b, of_b, used)
+    assert!(rt;
+        stands(rt, alloc, a, of_a, used) && stands(rt, alloc, b, of_b, used),
+        "{steps}"
+    );
 }
 
-// A line is empty, words for a reader, or a row to which two ends come.
-#[test]
-fn two_ends_tell_each_other_of_a_wire(rt: HostRuntime) {
-    for line in ROWS.lines() {
-        let line = line.trim();
-        let holds = match line.split_once(" = ") {
-            Some((steps, words)) => comes_to(&rt, rt.alloc(), steps, words),
-            None => line.is_empty() || line.ends_with('.'),
-        };
-        assert!(&rt; holds, "{line}");
-    }
+// The first octets that an end puts are these.
+fn put_first(rt: &impl Abort, alloc: Global, end: &mut End, octets: &[u8]) {
+    connected(rt, alloc, end, B).expect(rt, "connected");
+    let first = end.link.calls().get(0).expect(rt, "a call");
+    assert!(rt; is_same(first.bytes.as_slice(), octets));
 }
 
-#[test]
-fn the_first_octets(rt: HostRuntime) {
-    let alloc = rt.alloc();
-    let mut a = end_of(&rt, alloc, A, &[]);
-    connected(&rt, alloc, &mut a, B).expect(&rt, "connected");
-    let first = a.link.calls().get(0).expect(&rt, "a call");
-    assert!(rt; first.bytes.as_slice() == FIRST);
-}
-
-// One end whose put with a number fails: the statuses that it has told are those of its calls, the failed one among them.
-fn failing(rt: &impl Abort, alloc: Global, number: u64, steps: &str) -> (End, End) {
-    let mut a = end_of(rt, alloc, A, &[]);
-    let mut b = end_of(rt, alloc, B, &[number]);
-    run(rt, alloc, &mut a, &mut b, steps);
-    (a, b)
-}
-
-#[test]
-fn the_first_put_fails(rt: HostRuntime) {
-    let alloc = rt.alloc();
-    let (_, mut b) = failing(&rt, alloc, 1, "");
-    assert!(rt; connected(&rt, alloc, &mut b, A) == Err(IndepStop::Link));
+// The first put of an end fails: the statuses that it has told are those of its calls, the failed one among them.
+fn fail_to_connect(rt: &impl Abort, alloc: Global, b: &mut End) {
+    assert!(rt; connected(rt, alloc, b, A) == Err(IndepStop::Link));
     assert!(rt; b.edge.is_connected(A));
-    assert!(rt; has_told(&b, b"\x20"));
-    lost(&rt, &mut b, A);
+    assert!(rt; has_told(b, b"\x20"));
+    lost(rt, b, A);
     assert!(rt; !b.edge.is_connected(A));
-    assert!(rt; connected(&rt, alloc, &mut b, A) == Ok(()));
-    assert!(rt; has_told(&b, b"\x20\x20"));
+    connected(rt, alloc, b, A).expect(rt, "connected");
+    assert!(rt; has_told(b, b"\x20\x20"));
 }
 
-#[test]
-fn the_put_of_a_set_fails(rt: HostRuntime) {
-    let alloc = rt.alloc();
-    let (_, mut b) = failing(&rt, alloc, 2, "connect, settle 56");
-    assert!(rt; set(&rt, alloc, &mut b, Wish::Ask) == Err(IndepStop::Link));
-    assert!(rt; calls_so(&rt, &b, Wish::Ask));
-    assert!(rt; has_told(&b, b"\x20\x40"));
+// The second put of an end fails, by which it asks.
+fn fail_to_ask(rt: &impl Abort, alloc: Global, a: &mut End, b: &mut End) {
+    run(rt, alloc, a, b, "connect, settle 56");
+    assert!(rt; set(rt, alloc, b, Wish::Ask) == Err(IndepStop::Link));
+    assert!(rt; calls_so(rt, b, Wish::Ask));
+    assert!(rt; has_told(b, b"\x20\x40"));
 }
 
-#[test]
-fn the_put_of_an_answer_fails(rt: HostRuntime) {
-    let alloc = rt.alloc();
-    let (a, mut b) = failing(&rt, alloc, 2, "connect, settle 56, A asks");
-    let octets = a.link.calls().get(1).expect(&rt, "a call").bytes.as_slice();
-    assert!(rt; hear(&rt, alloc, &mut b, A, octets) == Err(IndepStop::Link));
-    assert!(rt; b.edge.is_connected(A) && uses(&rt, &b));
-    lost(&rt, &mut b, A);
-    assert!(rt; !b.edge.is_connected(A) && !uses(&rt, &b));
-    assert!(rt; calls_so(&rt, &b, Wish::Active));
+// The second put of an end fails, by which it answers.
+fn fail_to_answer(rt: &impl Abort, alloc: Global, a: &mut End, b: &mut End) {
+    run(rt, alloc, a, b, "connect, settle 56, A asks");
+    let octets = a.link.calls().get(1).expect(rt, "a call").bytes.as_slice();
+    assert!(rt; hear(rt, alloc, b, A, octets) == Err(IndepStop::Link));
+    assert!(rt; b.edge.is_connected(A) && uses(rt, b));
+    lost(rt, b, A);
+    assert!(rt; !b.edge.is_connected(A) && !uses(rt, b));
+    assert!(rt; calls_so(rt, b, Wish::Active));
 }
 
 // Octets that are no PDUs are refused at a place, at each call from then on, and no more once the connection was lost.
-fn refused(rt: &impl Abort, alloc: Global, whole: &[u8], wrong: &[u8], place: u64) {
-    let mut a = end_of(rt, alloc, A, &[]);
-    connected(rt, alloc, &mut a, B).expect(rt, "connected");
-    hear(rt, alloc, &mut a, B, whole).expect(rt, "heard");
-    let first = hear(rt, alloc, &mut a, B, wrong);
+fn refuse(rt: &impl Abort, alloc: Global, a: &mut End, fault: (&[u8], &[u8], u64)) {
+    let (whole, wrong, place) = fault;
+    connected(rt, alloc, a, B).expect(rt, "connected");
+    hear(rt, alloc, a, B, whole).expect(rt, "heard");
+    let first = hear(rt, alloc, a, B, wrong);
     match first {
         Err(IndepStop::Refused(StreamFault::Refused { base, .. })) => assert!(rt; base == place),
         _ => assert!(rt; false),
     }
-    assert!(rt; hear(rt, alloc, &mut a, B, b"\x00") == first);
-    lost(rt, &mut a, B);
-    connected(rt, alloc, &mut a, B).expect(rt, "connected");
-    assert!(rt; hear(rt, alloc, &mut a, B, b"\x00") == Ok(()));
-}
-
-#[test]
-fn faults_of_the_stream(rt: HostRuntime) {
-    let alloc = rt.alloc();
-    refused(&rt, alloc, b"", b"\x00\x01\x00\x0d", 0);
-    refused(&rt, alloc, b"", b"\x00\x02\x00\x34", 0);
-    refused(&rt, alloc, b"", b"\x00\x01\xff\xff", 0);
-    refused(&rt, alloc, FIRST, b"\x00\x02\x00\x34", 56);
+    assert!(rt; hear(rt, alloc, a, B, b"\x00") == first);
+    lost(rt, a, B);
+    connected(rt, alloc, a, B).expect(rt, "connected");
+    hear(rt, alloc, a, B, b"\x00").expect(rt, "heard");
 }
 
 // Notifications of the second edge, whose octets are put together by hand (RFC 5036 section 3.5.1, RFC 8077 section 6.3.2). The first four
@@ -172,34 +138,135 @@ const ACTIVE_THEN_STANDBY: &[u8] =
 
 // Octets of the second edge that change nothing.
 fn ignores(rt: &impl Abort, alloc: Global, end: &mut End, octets: &[u8]) {
-    assert!(rt; hear(rt, alloc, end, B, octets) == Ok(()));
+    hear(rt, alloc, end, B, octets).expect(rt, "heard");
     assert!(rt; !uses(rt, end));
     assert!(rt; has_told(end, b"\x20\x00"));
 }
 
+// The first end connects, and is active.
+fn be_active(rt: &impl Abort, alloc: Global, a: &mut End) {
+    connected(rt, alloc, a, B).expect(rt, "connected");
+    assert!(rt; set(rt, alloc, a, Wish::Active).expect(rt, "set"));
+}
+
+// What tells no status of a wire is ignored.
+fn ignore(rt: &impl Abort, alloc: Global, a: &mut End) {
+    be_active(rt, alloc, a);
+    ignores(rt, alloc, a, OTHER_DATUM);
+    ignores(rt, alloc, a, NO_FEC);
+    ignores(rt, alloc, a, NO_PW_ID);
+    ignores(rt, alloc, a, LONG_WIRE);
+}
+
+// The request is answered, the status behind it is not, and is what is known.
+fn take_two_messages(rt: &impl Abort, alloc: Global, a: &mut End) {
+    be_active(rt, alloc, a);
+    hear(rt, alloc, a, B, ASKS_THEN_ACTIVE).expect(rt, "heard");
+    assert!(rt; has_told(a, b"\x20\x00\x00"));
+    assert!(rt; uses(rt, a));
+    hear(rt, alloc, a, B, ACTIVE_THEN_STANDBY).expect(rt, "heard");
+    assert!(rt; has_told(a, b"\x20\x00\x00"));
+    assert!(rt; !uses(rt, a));
+}
+
+// What two ends have to do, from the beginning.
+#[derive(Clone, Copy)]
+enum Deed<'a> {
+    ComeTo(&'a str, &'a str),
+    PutFirst,
+    FailToConnect,
+    FailToAsk,
+    FailToAnswer,
+    Refuse(&'a [u8], &'a [u8], u64),
+    Ignore,
+    TakeTwoMessages,
+}
+
+// A scenario, which call of the second end's link fails (none for 0), and what both ends do.
+type Scene<'a> = (&'a [&'a str], u64, Deed<'a>);
+
+// Two ends do a deed.
+fn act(rt: &impl Abort, alloc: Global, a: &mut End, b: &mut End, deed: Deed<'_>) {
+    match deed {
+        Deed::ComeTo(steps, words) => come_to(rt, alloc, a, b, (steps, words)),
+        Deed::PutFirst => put_first(rt, alloc, a, FIRST),
+        Deed::FailToConnect => fail_to_connect(rt, alloc, b),
+        Deed::FailToAsk => fail_to_ask(rt, alloc, a, b),
+        Deed::FailToAnswer => fail_to_answer(rt, alloc, a, b),
+        Deed::Refuse(whole, wrong, place) => refuse(rt, alloc, a, (whole, wrong, place)),
+        Deed::Ignore => ignore(rt, alloc, a),
+        Deed::TakeTwoMessages => take_two_messages(rt, alloc, a),
+    }
+}
+
+// The first end meets the second one.
+fn meets(rt: &impl Abort, alloc: Global, a: &mut End, scene: Scene<'_>) {
+    let (pieces, fails, deed) = scene;
+    let mut b = end_of(rt, alloc, pieces, B, fails);
+    act(rt, alloc, a, &mut b, deed);
+    drop(b);
+}
+
+// Two ends play a scene. Each is held by a function of its own: to let two go in one would take long to prove.
+fn plays(rt: &impl Abort, alloc: Global, scene: Scene<'_>) {
+    let mut a = end_of(rt, alloc, scene.0, A, 0);
+    meets(rt, alloc, &mut a, scene);
+    drop(a);
+}
+
+// A line is empty, words for a reader, or a row to which two ends come.
+#[test]
+fn two_ends_tell_each_other_of_a_wire(rt: HostRuntime) {
+    for line in ROWS.lines() {
+        let line = line.trim();
+        match line.split_once(" = ") {
+            Some((steps, words)) => plays(&rt, rt.alloc(), (SITES, 0, Deed::ComeTo(steps, words))),
+            None => assert!(&rt; line.is_empty() || line.ends_with('.'), "{line}"),
+        }
+    }
+}
+
+#[test]
+fn the_first_octets(rt: HostRuntime) {
+    plays(&rt, rt.alloc(), (SITES, 0, Deed::PutFirst));
+}
+
+#[test]
+fn the_first_put_fails(rt: HostRuntime) {
+    plays(&rt, rt.alloc(), (SITES, 1, Deed::FailToConnect));
+}
+
+#[test]
+fn the_put_of_a_set_fails(rt: HostRuntime) {
+    plays(&rt, rt.alloc(), (SITES, 2, Deed::FailToAsk));
+}
+
+#[test]
+fn the_put_of_an_answer_fails(rt: HostRuntime) {
+    plays(&rt, rt.alloc(), (SITES, 2, Deed::FailToAnswer));
+}
+
+// What is refused: octets before it, octets that are no PDU, and the place of these.
+const REFUSED: [Scene<'static>; 4] = [
+    (SITES, 0, Deed::Refuse(b"", b"\x00\x01\x00\x0d", 0)),
+    (SITES, 0, Deed::Refuse(b"", b"\x00\x02\x00\x34", 0)),
+    (SITES, 0, Deed::Refuse(b"", b"\x00\x01\xff\xff", 0)),
+    (SITES, 0, Deed::Refuse(FIRST, b"\x00\x02\x00\x34", 56)),
+];
+
+#[test]
+fn faults_of_the_stream(rt: HostRuntime) {
+    for scene in REFUSED.iter() {
+        plays(&rt, rt.alloc(), *scene);
+    }
+}
+
 #[test]
 fn what_tells_no_status_of_a_wire_is_ignored(rt: HostRuntime) {
-    let alloc = rt.alloc();
-    let mut a = end_of_three(&rt, alloc, A);
-    connected(&rt, alloc, &mut a, B).expect(&rt, "connected");
-    assert!(rt; set(&rt, alloc, &mut a, Wish::Active) == Ok(true));
-    ignores(&rt, alloc, &mut a, OTHER_DATUM);
-    ignores(&rt, alloc, &mut a, NO_FEC);
-    ignores(&rt, alloc, &mut a, NO_PW_ID);
-    ignores(&rt, alloc, &mut a, LONG_WIRE);
+    plays(&rt, rt.alloc(), (SHORT_AND_LONG, 0, Deed::Ignore));
 }
 
 #[test]
 fn two_messages_in_one_pdu(rt: HostRuntime) {
-    let alloc = rt.alloc();
-    let mut a = end_of_three(&rt, alloc, A);
-    connected(&rt, alloc, &mut a, B).expect(&rt, "connected");
-    assert!(rt; set(&rt, alloc, &mut a, Wish::Active) == Ok(true));
-    // The request is answered, the status behind it is not, and is what is known.
-    assert!(rt; hear(&rt, alloc, &mut a, B, ASKS_THEN_ACTIVE) == Ok(()));
-    assert!(rt; has_told(&a, b"\x20\x00\x00"));
-    assert!(rt; uses(&rt, &a));
-    assert!(rt; hear(&rt, alloc, &mut a, B, ACTIVE_THEN_STANDBY) == Ok(()));
-    assert!(rt; has_told(&a, b"\x20\x00\x00"));
-    assert!(rt; !uses(&rt, &a));
+    plays(&rt, rt.alloc(), (SHORT_AND_LONG, 0, Deed::TakeTwoMessages));
 }
