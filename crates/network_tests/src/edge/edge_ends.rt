@@ -60,10 +60,7 @@ fn stand(rt: &impl Abort, ends: &PwEnds) {
 }
 
 // The switching point of a wire has its two ends: both ends of wire 0 are in the slots of the edge, and wire 1 has none.
-fn switches(rt: &impl Abort, alloc: Global) {
-    let plan = plan_of(rt, alloc, PATH);
-    assert!(rt; plan.edges.len() == 3);
-    let ends = PwEnds::open(alloc, &plan, B).expect(rt, "memory");
+fn switch(rt: &impl Abort, ends: &PwEnds) {
     let (first, past) = ends.slots_of(WireId(1));
     assert!(rt; ends.slots_of(WireId(0)) == (0, 2) && past <= first);
 }
@@ -169,9 +166,10 @@ fn hold_a_binding(rt: &impl Abort, plan: &Plan, ends: &mut PwEnds) {
     assert!(rt; !is_bound(ends, 1));
 }
 
-// What the ends of the first edge have to do, each once they are opened.
+// What the ends of an edge have to do, each once they are opened.
 #[derive(Clone, Copy)]
 enum Deed {
+    Switch,
     Stand,
     OwnLabels,
     AdvertiseUntilOneWithdraws,
@@ -180,21 +178,36 @@ enum Deed {
     HoldABinding,
 }
 
-// The ends of the first edge of a plan are opened, and do a deed.
-fn opened_do(rt: &impl Abort, alloc: Global, plan: &Plan, deed: Deed)
+// The ends of an edge of a plan do a deed.
+fn act(rt: &impl Abort, plan: &Plan, ends: &mut PwEnds, deed: Deed) {
+    match deed {
+        Deed::Switch => switch(rt, ends),
+        Deed::Stand => stand(rt, ends),
+        Deed::OwnLabels => own_labels(rt, plan, ends),
+        Deed::AdvertiseUntilOneWithdraws => advertise_until_one_withdraws(rt, plan, ends),
+        Deed::EndWithTheLabels => end_with_the_labels(rt, plan, ends),
+        Deed::GiveALabelAgain => give_a_label_again(rt, plan, ends),
+        Deed::HoldABinding => hold_a_binding(rt, plan, ends),
+    }
+}
+
+// The ends of an edge of a plan are opened, and do a deed.
+fn opened_do(rt: &impl Abort, alloc: Global, plan: &Plan, me: EdgeId, deed: Deed)
     requires { IsChecked plan.now }
 {
-    assert!(rt; !plan.edges.is_empty());
-    let mut ends = PwEnds::open(alloc, plan, A).expect(rt, "memory");
-    match deed {
-        Deed::Stand => stand(rt, &ends),
-        Deed::OwnLabels => own_labels(rt, plan, &mut ends),
-        Deed::AdvertiseUntilOneWithdraws => advertise_until_one_withdraws(rt, plan, &mut ends),
-        Deed::EndWithTheLabels => end_with_the_labels(rt, plan, &mut ends),
-        Deed::GiveALabelAgain => give_a_label_again(rt, plan, &mut ends),
-        Deed::HoldABinding => hold_a_binding(rt, plan, &mut ends),
-    }
+    assert!(rt; usize::from(me.0) < plan.edges.len());
+    let mut ends = PwEnds::open(alloc, plan, me).expect(rt, "memory");
+    act(rt, plan, &mut ends, deed);
     drop(ends);
+}
+
+// The ends of an edge of a scenario do these deeds, each from the beginning.
+fn do_deeds(rt: &impl Abort, alloc: Global, pieces: &[&str], me: EdgeId, deeds: &[Deed]) {
+    let plan = plan_of(rt, alloc, pieces);
+    for deed in deeds.iter() {
+        opened_do(rt, alloc, &plan, me, *deed);
+    }
+    drop(plan);
 }
 
 const DEEDS: [Deed; 6] = [
@@ -208,10 +221,6 @@ const DEEDS: [Deed; 6] = [
 
 #[test]
 fn ends_stand_advertise_and_bind(rt: HostRuntime) {
-    let plan = plan_of(&rt, rt.alloc(), TWO_WIRES);
-    for deed in DEEDS.iter() {
-        opened_do(&rt, rt.alloc(), &plan, *deed);
-    }
-    drop(plan);
-    switches(&rt, rt.alloc());
+    do_deeds(&rt, rt.alloc(), TWO_WIRES, A, &DEEDS);
+    do_deeds(&rt, rt.alloc(), PATH, B, &[Deed::Switch]);
 }
