@@ -1,7 +1,6 @@
 //! A network tells the same of a frame that it is given and of one that it is lent.
 
-use crate::network::steps::{frame_octets, network_of, place_in};
-use crate::network::traces::kinds_of;
+use crate::network::steps::{Step, frame_octets, network_of, place_in, play};
 use crate::scenarios::BRIDGE;
 use net_base::{CircuitId, Entry, Event, Trace};
 use psn_net::Network;
@@ -13,43 +12,31 @@ const BROADCAST: &str = "ffffffffffff0200000000010800";
 
 const ANSWER: &str = "0200000000010200000000020800";
 
-// At which circuits frames enter: the broadcast leaves at the other two, and the answer at the first one.
-const FRAMES: [(u16, &str); 3] = [(0, BROADCAST), (1, ANSWER), (0, BROADCAST)];
+// The broadcasts leave at the other two circuits, and the answer at the first one; the last frame does not apply.
+const STEPS: [Step; 6] = [
+    Step::Frame(0, BROADCAST),
+    Step::Frame(1, ANSWER),
+    Step::Frame(0, BROADCAST),
+    Step::Off,
+    Step::Frame(0, BROADCAST),
+    Step::Kinds(">nll>nl>nll>>i"),
+];
 
-// How a network gets a frame: it is lent the event, or it is given the octets.
-#[derive(Clone, Copy)]
-enum By {
-    Lending,
-    Giving,
+// A network is given a frame that enters at a circuit.
+fn is_given(rt: &impl Abort, alloc: Global, network: &mut Network, place: u16, text: &str) {
+    let circuit = CircuitId(place_in(rt, network.plan().circuits.len(), place));
+    let bytes = frame_octets(rt, alloc, text);
+    assert!(rt; network.enter(alloc, circuit, bytes).is_ok());
 }
 
-// A network gets a frame that enters at a circuit.
-fn enters(rt: &impl Abort, alloc: Global, network: &mut Network, by: By, frame: (u16, &str)) {
-    let circuit = CircuitId(place_in(rt, network.plan().circuits.len(), frame.0));
-    let bytes = frame_octets(rt, alloc, frame.1);
-    let entered = match by {
-        By::Lending => network.apply(alloc, &Event::Frame { circuit, bytes }),
-        By::Giving => network.enter(alloc, circuit, bytes),
-    };
-    assert!(rt; entered.is_ok());
-}
-
-// Turns the first circuit off.
-fn turns_off(rt: &impl Abort, alloc: Global, network: &mut Network) {
-    let event = Event::Circuit {
-        circuit: CircuitId(place_in(rt, network.plan().circuits.len(), 0)),
-        on: false,
-    };
-    assert!(rt; network.apply(alloc, &event).is_ok());
-}
-
-// A network gets the frames, and one more that does not apply.
-fn all_enter(rt: &impl Abort, alloc: Global, network: &mut Network, by: By) {
-    for frame in &FRAMES {
-        enters(rt, alloc, network, by, *frame);
+// A network is given the frames of these steps, and does the others.
+fn is_given_all(rt: &impl Abort, alloc: Global, network: &mut Network, steps: &[Step]) {
+    for step in steps.iter() {
+        match *step {
+            Step::Frame(place, text) => is_given(rt, alloc, network, place, text),
+            other => play(rt, alloc, network, &[other]),
+        }
     }
-    turns_off(rt, alloc, network);
-    enters(rt, alloc, network, by, FRAMES[0]);
 }
 
 // The circuit, the number and the octets of the frame that an entry tells.
@@ -84,28 +71,27 @@ fn tell_same(entry: &Entry, other: &Entry) -> bool {
     }
 }
 
-// The trace has the entries of the frames.
-fn has_frames(rt: &impl Abort, alloc: Global, trace: &Trace) {
-    let kinds = kinds_of(rt, alloc, trace);
-    assert!(rt; kinds.as_str() == ">nll>nl>nll>>i");
-}
-
-// Both traces have the entries of the frames, with the same circuits, numbers and octets.
-fn are_same(rt: &impl Abort, alloc: Global, trace: &Trace, other: &Trace) {
-    has_frames(rt, alloc, trace);
-    has_frames(rt, alloc, other);
+// Both traces have as many entries, with the same circuits, numbers and octets of frames.
+fn are_same(rt: &impl Abort, trace: &Trace, other: &Trace) {
+    assert!(rt; trace.len() == other.len());
     for (entry, beside) in trace.as_slice().iter().zip(other.as_slice().iter()) {
         assert!(rt; tell_same(entry, beside));
     }
 }
 
+// A network that is given the frames has the same trace.
+fn is_told_alike(rt: &impl Abort, alloc: Global, trace: &Trace) {
+    let mut given = network_of(rt, alloc, BRIDGE);
+    is_given_all(rt, alloc, &mut given, &STEPS);
+    are_same(rt, trace, given.trace());
+    drop(given.into_trace());
+}
+
+// The one network is lent each frame. Each network is held by a function of its own: to let two go in one would take long to prove.
 #[test]
 fn tells_the_same_of_a_frame_that_is_given(rt: HostRuntime) {
     let mut lent = network_of(&rt, rt.alloc(), BRIDGE);
-    let mut given = network_of(&rt, rt.alloc(), BRIDGE);
-    all_enter(&rt, rt.alloc(), &mut lent, By::Lending);
-    all_enter(&rt, rt.alloc(), &mut given, By::Giving);
-    are_same(&rt, rt.alloc(), lent.trace(), given.trace());
+    play(&rt, rt.alloc(), &mut lent, &STEPS);
+    is_told_alike(&rt, rt.alloc(), lent.trace());
     drop(lent.into_trace());
-    drop(given.into_trace());
 }
