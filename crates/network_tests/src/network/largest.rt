@@ -1,9 +1,9 @@
 //! The largest frame crosses a wire.
 ghost use Rattle.std.specs.Prelude.{◌≤◌, length};
 
-use crate::network::steps::{Step, network_of, play};
+use crate::network::steps::{Step, enter, network_of, play};
 use crate::scenarios::LARGEST;
-use net_base::{CircuitId, Entry, Event, List, Octets};
+use net_base::{Entry, List, Octets};
 use psn_net::Network;
 use std::alloc::Global;
 use std::process::Abort;
@@ -24,16 +24,6 @@ fn frame(rt: &impl Abort, alloc: Global) -> Octets
     octets
 }
 
-// The frame enters at the first circuit.
-fn enters(rt: &impl Abort, alloc: Global, network: &mut Network) {
-    assert!(rt; !network.plan().circuits.is_empty());
-    let event = Event::Frame {
-        circuit: CircuitId(0),
-        bytes: frame(rt, alloc),
-    };
-    assert!(rt; network.apply(alloc, &event).is_ok());
-}
-
 // Whether the last entry is that these octets left at the second circuit.
 fn has_left(network: &Network, octets: &[u8]) -> bool {
     let trace = network.trace();
@@ -46,7 +36,7 @@ fn has_left(network: &Network, octets: &[u8]) -> bool {
 // The frame crosses, and leaves as it entered.
 fn crosses(rt: &impl Abort, alloc: Global, network: &mut Network) {
     play(rt, alloc, network, &UP);
-    enters(rt, alloc, network);
+    assert!(rt; enter(rt, alloc, network, 0, frame(rt, alloc)).is_ok());
     play(rt, alloc, network, &ARRIVES);
     let octets = frame(rt, alloc);
     assert!(rt; has_left(network, octets.as_slice()));

@@ -1,8 +1,8 @@
 //! The largest network of one edge floods as much as the limit lets be.
-ghost use Rattle.std.specs.Prelude.{◌<◌};
+ghost use Rattle.std.specs.Prelude.{◌≤◌, length};
 
-use crate::network::steps::network_of;
-use net_base::{CircuitId, Event, List};
+use crate::network::steps::{enter, network_of};
+use net_base::{List, Octets};
 use psn_net::{NetStop, Network};
 use std::alloc::Global;
 use std::process::Abort;
@@ -24,14 +24,11 @@ fn largest(rt: &impl Abort, alloc: Global) -> Network {
     network_of(rt, alloc, &[text.as_str()])
 }
 
-// A broadcast of 9,216 octets enters at the first circuit.
-fn enter(rt: &impl Abort, alloc: Global, network: &mut Network) -> Result<(), NetStop> {
-    assert!(rt; !network.plan().circuits.is_empty());
-    let event = Event::Frame {
-        circuit: CircuitId(0),
-        bytes: List::from_bytes(alloc, [255; 9216].as_slice()).expect(rt, "memory"),
-    };
-    network.apply(alloc, &event)
+// A broadcast of 9,216 octets.
+fn broadcast(rt: &impl Abort, alloc: Global) -> Octets
+    ensures { length result ≤ 9216 }
+{
+    List::from_bytes(alloc, [255; 9216].as_slice()).expect(rt, "memory")
 }
 
 // The next broadcast is too much, and nothing is changed.
@@ -40,7 +37,7 @@ fn is_too_much(rt: &impl Abort, alloc: Global, network: &mut Network, entries: u
         weight: 271_356_480,
         event: 58,
     };
-    assert!(rt; enter(rt, alloc, network) == Err(stop));
+    assert!(rt; enter(rt, alloc, network, 0, broadcast(rt, alloc)) == Err(stop));
     assert!(rt; network.weight() == 271_356_480);
     assert!(rt; network.trace().len() == entries);
 }
@@ -48,7 +45,7 @@ fn is_too_much(rt: &impl Abort, alloc: Global, network: &mut Network, entries: u
 // The trace takes 57 broadcasts, and no other one.
 fn fills(rt: &impl Abort, alloc: Global, network: &mut Network) {
     for _done in 0..57 {
-        assert!(rt; enter(rt, alloc, network).is_ok());
+        assert!(rt; enter(rt, alloc, network, 0, broadcast(rt, alloc)).is_ok());
     }
     let entries = network.trace().len();
     for _again in 0..3 {

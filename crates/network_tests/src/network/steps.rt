@@ -9,7 +9,7 @@ use crate::network::traces::{
 use crate::octets::octets_of;
 use crate::scenarios::plan_of;
 use net_base::{CircuitId, EdgeId, Event, List, Octets, ServiceId, Trace, WireId};
-use psn_net::Network;
+use psn_net::{NetStop, Network};
 use std::alloc::Global;
 use std::process::Abort;
 
@@ -160,13 +160,25 @@ fn applied(rt: &impl Abort, alloc: Global, network: &mut Network, event: Option<
     }
 }
 
-// A frame of these octets comes by a circuit.
+/// A frame of these octets comes by a circuit.
+pub fn enter(
+    rt: &impl Abort,
+    alloc: Global,
+    network: &mut Network,
+    place: u16,
+    bytes: Octets,
+) -> Result<(), NetStop>
+    requires { length bytes ≤ 9216 }
+{
+    let circuit = CircuitId(place_in(rt, network.plan().circuits.len(), place));
+    network.apply(alloc, &Event::Frame { circuit, bytes })
+}
+
+// A frame of these octets comes by a circuit, and after it every map that the network lends has what its table has.
 fn enters(rt: &impl Abort, alloc: Global, network: &mut Network, place: u16, text: &str) {
-    let event = Event::Frame {
-        circuit: CircuitId(place_in(rt, network.plan().circuits.len(), place)),
-        bytes: frame_octets(rt, alloc, text),
-    };
-    apply(rt, alloc, network, &event);
+    let bytes = frame_octets(rt, alloc, text);
+    assert!(rt; enter(rt, alloc, network, place, bytes).is_ok());
+    assert!(rt; have_all(network));
 }
 
 // Delivers whatever is on its way, in at most 100 events.
@@ -213,23 +225,12 @@ fn maps(
     );
 }
 
-// The first packet arrives, where one is under way; answers whether it is.
-fn arrived(rt: &impl Abort, alloc: Global, network: &mut Network) -> bool {
-    match network.next_arrival() {
-        Some(event) => {
-            assert!(rt; matches!(event, Event::Arrive { .. }));
-            apply(rt, alloc, network, &event);
-            true
-        }
-        None => false,
-    }
-}
-
 // All packets arrive, the first one first: so many, of at most 100.
 fn flows(rt: &impl Abort, alloc: Global, network: &mut Network, count: u32) {
     let mut arrivals: u32 = 0;
     for _arrival in 0..100 {
-        if !arrived(rt, alloc, network) {
+        let event = network.next_arrival();
+        if !applied(rt, alloc, network, event) {
             break;
         }
         arrivals = arrivals.saturating_add(1);
@@ -290,23 +291,23 @@ fn has_left(rt: &impl Abort, alloc: Global, trace: &Trace, frame: u64, hops: &st
     found.as_str() == hops
 }
 
-// Whether the trace is what a step says; none where it says nothing of it.
-fn agrees_in_trace(rt: &impl Abort, alloc: Global, trace: &Trace, step: Step) -> Option<bool> {
+// Whether the trace is what a step says.
+fn agrees_in_trace(rt: &impl Abort, alloc: Global, trace: &Trace, step: Step) -> bool {
     match step {
-        Step::Entries(count) => Some(trace.len() == count),
-        Step::Over(count) => Some(trace.len() > count),
-        Step::Kinds(kinds) => Some(has_kinds(rt, alloc, trace, kinds)),
-        Step::Says(place, me, text) => Some(has_said(rt, alloc, trace, place, me, text)),
-        Step::Ends(kinds) => Some(ends_with(rt, alloc, trace, kinds)),
-        Step::Idle(idle) => Some(is_idle(trace) == idle),
-        Step::Mappings(me, peer, count) => Some(mappings_of(trace, me, peer) == count),
-        Step::Left(frame, hops) => Some(has_left(rt, alloc, trace, frame, hops)),
-        _ => None,
+        Step::Entries(count) => trace.len() == count,
+        Step::Over(count) => trace.len() > count,
+        Step::Kinds(kinds) => has_kinds(rt, alloc, trace, kinds),
+        Step::Says(place, me, text) => has_said(rt, alloc, trace, place, me, text),
+        Step::Ends(kinds) => ends_with(rt, alloc, trace, kinds),
+        Step::Idle(idle) => is_idle(trace) == idle,
+        Step::Mappings(me, peer, count) => mappings_of(trace, me, peer) == count,
+        Step::Left(frame, hops) => has_left(rt, alloc, trace, frame, hops),
+        _ => false,
     }
 }
 
-// Whether the state, with that of the first service, is what a step says.
-fn agrees_in_state(rt: &impl Abort, network: &Network, step: Step) -> bool {
+// Whether the state, with that of the first service, or else the trace is what a step says.
+fn agrees(rt: &impl Abort, alloc: Global, network: &Network, step: Step) -> bool {
     assert!(rt; !network.plan().services.is_empty());
     match step {
         Step::Quiet(quiet) => network.is_quiet(ServiceId(0)) == quiet,
@@ -318,15 +319,7 @@ fn agrees_in_state(rt: &impl Abort, network: &Network, step: Step) -> bool {
         Step::NextLabel(me, label) => next_label(network, me) == label,
         Step::UnderWay(count) => network.under_way() == count,
         Step::Passed(me, ticks) => ticks_of(network, me) == Some(ticks),
-        _ => false,
-    }
-}
-
-// Whether what stands is what a step says.
-fn agrees(rt: &impl Abort, alloc: Global, network: &Network, step: Step) -> bool {
-    match agrees_in_trace(rt, alloc, network.trace(), step) {
-        Some(agrees) => agrees,
-        None => agrees_in_state(rt, network, step),
+        _ => agrees_in_trace(rt, alloc, network.trace(), step),
     }
 }
 
@@ -342,7 +335,9 @@ pub fn play(rt: &impl Abort, alloc: Global, network: &mut Network, steps: &[Step
 /// The network of a scenario, which is given in pieces, before its first event.
 pub fn network_of(rt: &impl Abort, alloc: Global, pieces: &[&str]) -> Network {
     let plan = plan_of(rt, alloc, pieces);
-    Network::open(alloc, &plan).expect(rt, "memory")
+    let network = Network::open(alloc, &plan).expect(rt, "memory");
+    drop(plan);
+    network
 }
 
 /// The network of a scenario, which is given in pieces, does steps.

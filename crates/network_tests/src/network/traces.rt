@@ -5,32 +5,25 @@ use psn_net::Network;
 use std::alloc::Global;
 use std::process::Abort;
 
+// A letter for the state of a session that is told.
+fn letter_of(state: StateName) -> char {
+    match state {
+        StateName::Initialized => '0',
+        StateName::OpenSent => '1',
+        StateName::OpenRec => '2',
+        StateName::Operational => '3',
+        StateName::Ended(Reason::Closed) => 'c',
+        _ => '?',
+    }
+}
+
 // A letter for the kind of an entry; of a session that is told, for its state.
 fn kind_of(entry: &Entry) -> char {
     match entry {
         Entry::Did { .. } => '>',
         Entry::Idle => 'i',
         Entry::Said { .. } => 's',
-        Entry::Session {
-            state: StateName::Initialized,
-            ..
-        } => '0',
-        Entry::Session {
-            state: StateName::OpenSent,
-            ..
-        } => '1',
-        Entry::Session {
-            state: StateName::OpenRec,
-            ..
-        } => '2',
-        Entry::Session {
-            state: StateName::Operational,
-            ..
-        } => '3',
-        Entry::Session {
-            state: StateName::Ended(Reason::Closed),
-            ..
-        } => 'c',
+        Entry::Session { state, .. } => letter_of(*state),
         Entry::In { .. } => 'n',
         Entry::Left { .. } => 'l',
         Entry::Dropped { .. } => 'd',
