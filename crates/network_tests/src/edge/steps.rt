@@ -173,26 +173,26 @@ fn is_dropped(effects: &Effects, place: usize, cause: DropCause) -> bool {
     }
 }
 
-// Whether the effects are what a step says, which names these octets; none where it says nothing of them.
-fn agrees_in_effects(effects: &Effects, step: Step, octets: &[u8]) -> Option<bool> {
+// Whether the effects are what a step says, which names these octets.
+fn agrees_in_effects(effects: &Effects, step: Step, octets: &[u8]) -> bool {
     match step {
-        Step::Idle => Some(effects.idle),
-        Step::Gives(count) => Some(!effects.idle && effects.list.len() == count),
-        Step::Told(place, state) => Some(is_told(effects, place, state)),
-        Step::Left(place, circuit, _) => Some(is_left(effects, place, circuit, octets)),
+        Step::Idle => effects.idle,
+        Step::Gives(count) => !effects.idle && effects.list.len() == count,
+        Step::Told(place, state) => is_told(effects, place, state),
+        Step::Left(place, circuit, _) => is_left(effects, place, circuit, octets),
         Step::SentOn(place, peer, wire) => {
-            Some(matches!(
+            matches!(
                 sent_for(effects, place, peer, wire),
                 Some(Arrival::Circuit(_))
-            ))
+            )
         }
-        Step::Echoed(peer, wire) => Some(
-            effects.list.len() == 1 && sent_for(effects, 0, peer, wire) == Some(Arrival::Own),
-        ),
-        Step::Ponged(wire, sequence) => Some(is_ponged(effects, wire, sequence)),
-        Step::Dropped(cause) => Some(effects.list.len() == 1 && is_dropped(effects, 0, cause)),
-        Step::DroppedAt(place, cause) => Some(is_dropped(effects, place, cause)),
-        _ => None,
+        Step::Echoed(peer, wire) => {
+            effects.list.len() == 1 && sent_for(effects, 0, peer, wire) == Some(Arrival::Own)
+        }
+        Step::Ponged(wire, sequence) => is_ponged(effects, wire, sequence),
+        Step::Dropped(cause) => effects.list.len() == 1 && is_dropped(effects, 0, cause),
+        Step::DroppedAt(place, cause) => is_dropped(effects, place, cause),
+        _ => false,
     }
 }
 
@@ -241,17 +241,14 @@ fn agrees_in_edge(edge: &Edge, step: Step) -> bool {
     }
 }
 
-// Whether what stands is what a step says, which names these octets.
+// Whether the calls of the link, the effects or the edge are what a step says, which names these octets.
 fn agrees(side: &Side, step: Step, octets: &[u8]) -> bool {
-    if let Some(agrees) = agrees_in_effects(&side.effects, step, octets) {
-        return agrees;
-    }
     let calls = side.link.calls();
     match step {
         Step::Calls(count) => calls.len() == count,
         Step::Put(place, peer, _) => is_call(calls.get(place), peer, false, octets),
         Step::Sent(place, peer, _) => is_call(calls.get(place), peer, true, octets),
-        _ => agrees_in_edge(&side.edge, step),
+        _ => agrees_in_effects(&side.effects, step, octets) || agrees_in_edge(&side.edge, step),
     }
 }
 

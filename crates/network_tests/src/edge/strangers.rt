@@ -81,9 +81,8 @@ const STATUS_0: &str = "896a0004 00000000";
 fn hears_mappings(rt: &impl Abort, alloc: Global, side: &mut Side, front: &str, count: u16) {
     for number in 0..count {
         let mut mapping = octets_of(rt, alloc, front);
-        for octet in (16 + u32::from(number)).to_be_bytes() {
-            mapping.push(octet).expect(rt, "memory");
-        }
+        let label = (16 + u32::from(number)).to_be_bytes();
+        mapping.extend_from_slice(&label).expect(rt, "memory");
         push_octets(rt, &mut mapping, STATUS_0);
         let bytes = mapping.as_slice();
         take(rt, alloc, side, Input::Octets { peer: A, bytes });
