@@ -1,6 +1,6 @@
 //! A hierarchy of four core edges in full mesh and of two spoke edges that hang on them: what floods over it in a calm service.
 
-use crate::network::steps::{Step, plays};
+use crate::network::steps::{Run, Step, plays_all};
 use crate::scenarios::{HIERARCHY, TWO_SPOKES};
 
 /// A broadcast from the station 02:00:00:00:00:01, and a frame to it from the station 02:00:00:00:00:02.
@@ -9,7 +9,7 @@ const BROADCAST: &str = "ffffffffffff0200000000010800";
 const ANSWER: &str = "0200000000010200000000020800";
 
 // Every wire is set up.
-static UP: [Step; 10] = [
+const UP: [Step; 10] = [
     Step::Calm(false),
     Step::Connect(0, 1),
     Step::Connect(0, 2),
@@ -76,11 +76,14 @@ const MOVES: [Step; 19] = [
     Step::Over(0),
 ];
 
+const FLOODS_OVER_A_HIERARCHY: [Run; 4] = [
+    (HIERARCHY, &UP, &FLOODS),
+    (HIERARCHY, &UP, &ANSWERS),
+    (HIERARCHY, &UP, &LOSES_A_SPOKE),
+    (TWO_SPOKES, &UP, &MOVES),
+];
+
 #[test]
 fn floods_over_a_hierarchy(rt: HostRuntime) {
-    let alloc = rt.alloc();
-    plays(&rt, alloc, HIERARCHY, &UP, &FLOODS);
-    plays(&rt, alloc, HIERARCHY, &UP, &ANSWERS);
-    plays(&rt, alloc, HIERARCHY, &UP, &LOSES_A_SPOKE);
-    plays(&rt, alloc, TWO_SPOKES, &UP, &MOVES);
+    plays_all(&rt, rt.alloc(), &FLOODS_OVER_A_HIERARCHY);
 }

@@ -1,6 +1,6 @@
 //! Labels are given again, and packets age. The first edge has one label left, 1048575.
 
-use crate::network::steps::{Step, plays};
+use crate::network::steps::{Run, Step, plays_all};
 use crate::scenarios::{LARGEST, LAST_LABEL, LAST_LABEL_AND_A_SHORT_SESSION, LAST_LABEL_OF_TWO};
 
 const UP: [Step; 3] = [Step::Connect(0, 1), Step::Settle, Step::Mappings(0, 1, 1)];
@@ -75,21 +75,22 @@ const GOES_TO_ONE_WHOSE_SESSION_STANDS: [Step; 5] = [
     Step::Mappings(0, 2, 0),
 ];
 
-#[test]
-fn labels_are_given_again(rt: HostRuntime) {
-    let alloc = rt.alloc();
-    plays(&rt, alloc, LAST_LABEL, &UP, &WAITS_FOR_THE_NEXT_CONNECTION);
-    plays(&rt, alloc, LAST_LABEL, &UP, &RESTS_FROM_THE_CONNECTION_ON);
-    plays(&rt, alloc, LAST_LABEL, &UP, &RESTS_ON);
-    plays(&rt, alloc, LAST_LABEL, &UP, &WAITS_AFTER_A_RESTART);
-    plays(&rt, alloc, LAST_LABEL_OF_TWO, &UP, &GOES_TO_THE_FIRST_WIRE);
-    plays(
-        &rt,
-        alloc,
+const LABELS_ARE_GIVEN_AGAIN: [Run; 6] = [
+    (LAST_LABEL, &UP, &WAITS_FOR_THE_NEXT_CONNECTION),
+    (LAST_LABEL, &UP, &RESTS_FROM_THE_CONNECTION_ON),
+    (LAST_LABEL, &UP, &RESTS_ON),
+    (LAST_LABEL, &UP, &WAITS_AFTER_A_RESTART),
+    (LAST_LABEL_OF_TWO, &UP, &GOES_TO_THE_FIRST_WIRE),
+    (
         LAST_LABEL_AND_A_SHORT_SESSION,
         &UP,
         &GOES_TO_ONE_WHOSE_SESSION_STANDS,
-    );
+    ),
+];
+
+#[test]
+fn labels_are_given_again(rt: HostRuntime) {
+    plays_all(&rt, rt.alloc(), &LABELS_ARE_GIVEN_AGAIN);
 }
 
 const SENDS: [Step; 4] = [
@@ -135,10 +136,13 @@ const AGES_ONE_BY_ONE: [Step; 9] = [
     Step::Ends(">a>a"),
 ];
 
+const PACKETS_AGE: [Run; 3] = [
+    (LARGEST, &SENDS, &AGES),
+    (LARGEST, &SENDS, &COPIES_AGE_ALIKE),
+    (LARGEST, &SENDS, &AGES_ONE_BY_ONE),
+];
+
 #[test]
 fn packets_age(rt: HostRuntime) {
-    let alloc = rt.alloc();
-    plays(&rt, alloc, LARGEST, &SENDS, &AGES);
-    plays(&rt, alloc, LARGEST, &SENDS, &COPIES_AGE_ALIKE);
-    plays(&rt, alloc, LARGEST, &SENDS, &AGES_ONE_BY_ONE);
+    plays_all(&rt, rt.alloc(), &PACKETS_AGE);
 }

@@ -1,13 +1,13 @@
 //! Wires over switching points: when their service is calm, and how many segments a broadcast passes over them.
 
-use crate::network::steps::{Step, plays};
+use crate::network::steps::{Run, Step, plays_all};
 use crate::scenarios::CHAINS;
 
 /// A broadcast of 14 octets.
 const BROADCAST: &str = "ffffffffffff0200000000010800";
 
 // Every wire is set up.
-static UP: [Step; 10] = [
+const UP: [Step; 10] = [
     Step::Calm(false),
     Step::Connect(0, 6),
     Step::Connect(1, 5),
@@ -86,11 +86,14 @@ const RESTARTS: [Step; 17] = [
     Step::Left(2, "//4/4/8//"),
 ];
 
+const FLOODS_OVER_SWITCHING_POINTS: [Run; 4] = [
+    (CHAINS, &UP, &PASSES_TWELVE),
+    (CHAINS, &UP, &LOSES_ITS_MIDDLE),
+    (CHAINS, &UP, &PASSES_A_FAILURE_ON),
+    (CHAINS, &UP, &RESTARTS),
+];
+
 #[test]
 fn floods_over_switching_points(rt: HostRuntime) {
-    let alloc = rt.alloc();
-    plays(&rt, alloc, CHAINS, &UP, &PASSES_TWELVE);
-    plays(&rt, alloc, CHAINS, &UP, &LOSES_ITS_MIDDLE);
-    plays(&rt, alloc, CHAINS, &UP, &PASSES_A_FAILURE_ON);
-    plays(&rt, alloc, CHAINS, &UP, &RESTARTS);
+    plays_all(&rt, rt.alloc(), &FLOODS_OVER_SWITCHING_POINTS);
 }

@@ -1,6 +1,6 @@
 //! A pseudowire over the network comes up and ends.
 
-use crate::network::steps::{Step, plays};
+use crate::network::steps::{Run, Step, plays_all};
 use crate::scenarios::{LARGEST, PAIR};
 
 // The Label Mapping of edge 0, and that of edge 1: each offers PW ID 100 under label 16, with control word, MTU 1500 and
@@ -85,13 +85,16 @@ const FAILS: [Step; 6] = [
     Step::Entries(29),
 ];
 
+const SETS_PSEUDOWIRES_UP_AND_ENDS_THEM: [Run; 6] = [
+    (PAIR, &UP, &IS_UP),
+    (PAIR, &UP, &WITHDRAWS),
+    (LARGEST, &UP, &OUTLIVES_ITS_LABEL),
+    (PAIR, &UP, &RESTARTS),
+    (PAIR, &CUT, &COMES_UP_ANEW),
+    (PAIR, &UP, &FAILS),
+];
+
 #[test]
 fn sets_pseudowires_up_and_ends_them(rt: HostRuntime) {
-    let alloc = rt.alloc();
-    plays(&rt, alloc, PAIR, &UP, &IS_UP);
-    plays(&rt, alloc, PAIR, &UP, &WITHDRAWS);
-    plays(&rt, alloc, LARGEST, &UP, &OUTLIVES_ITS_LABEL);
-    plays(&rt, alloc, PAIR, &UP, &RESTARTS);
-    plays(&rt, alloc, PAIR, &CUT, &COMES_UP_ANEW);
-    plays(&rt, alloc, PAIR, &UP, &FAILS);
+    plays_all(&rt, rt.alloc(), &SETS_PSEUDOWIRES_UP_AND_ENDS_THEM);
 }

@@ -1,6 +1,6 @@
 //! Frames of one edge, and when a service is calm.
 
-use crate::network::steps::{Step, plays};
+use crate::network::steps::{Run, Step, plays_all};
 use crate::scenarios::{BRIDGE, PAIR};
 
 // A broadcast of 14 octets, and one octet less.
@@ -50,9 +50,12 @@ const IS_CALM_AND_IS_NOT: [Step; 24] = [
     Step::Over(0),
 ];
 
+const BRIDGES_FRAMES_AND_IS_CALM: [Run; 2] = [
+    (BRIDGE, &[], &BRIDGES),
+    (PAIR, &[], &IS_CALM_AND_IS_NOT),
+];
+
 #[test]
 fn bridges_frames_and_is_calm(rt: HostRuntime) {
-    let alloc = rt.alloc();
-    plays(&rt, alloc, BRIDGE, &[], &BRIDGES);
-    plays(&rt, alloc, PAIR, &[], &IS_CALM_AND_IS_NOT);
+    plays_all(&rt, rt.alloc(), &BRIDGES_FRAMES_AND_IS_CALM);
 }

@@ -1,6 +1,6 @@
 //! Sessions over the network come up and end. The wire is off at both edges, so that nothing but sessions is told.
 
-use crate::network::steps::{Step, plays};
+use crate::network::steps::{Run, Step, plays_all};
 use crate::scenarios::PAIR;
 
 // The Initialization of edge 0, and that of edge 1; and the KeepAlive that each puts next (RFC 5036 sections 3.5.3 and 3.5.4).
@@ -50,10 +50,13 @@ const RESTARTS: [Step; 6] = [
     Step::Entries(16),
 ];
 
+const SETS_SESSIONS_UP_AND_ENDS_THEM: [Run; 3] = [
+    (PAIR, &OFF, &SETS_UP),
+    (PAIR, &OFF, &LOSES),
+    (PAIR, &OFF, &RESTARTS),
+];
+
 #[test]
 fn sets_sessions_up_and_ends_them(rt: HostRuntime) {
-    let alloc = rt.alloc();
-    plays(&rt, alloc, PAIR, &OFF, &SETS_UP);
-    plays(&rt, alloc, PAIR, &OFF, &LOSES);
-    plays(&rt, alloc, PAIR, &OFF, &RESTARTS);
+    plays_all(&rt, rt.alloc(), &SETS_SESSIONS_UP_AND_ENDS_THEM);
 }

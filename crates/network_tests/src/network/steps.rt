@@ -7,7 +7,7 @@ use crate::network::traces::{
     bound_label, hops_of, is_idle, kinds_of, mappings_of, next_label, says, ticks_of,
 };
 use crate::octets::octets_of;
-use crate::scenarios::plan_of;
+use crate::scenarios::{Pieces, plan_of};
 use net_base::{CircuitId, EdgeId, Event, List, Octets, ServiceId, Trace, WireId};
 use psn_net::{NetStop, Network};
 use std::alloc::Global;
@@ -68,6 +68,9 @@ pub enum Step {
     /// After how many segments a frame left at each of the first six circuits, a hexadecimal digit a time, each behind a stroke.
     Left(u64, &'static str),
 }
+
+/// What a network does: its scenario, how it begins, and what it does then.
+pub type Run = (Pieces, &'static [Step], &'static [Step]);
 
 /// A place among so many.
 pub fn place_in(rt: &impl Abort, count: usize, place: u16) -> u16
@@ -340,8 +343,8 @@ pub fn network_of(rt: &impl Abort, alloc: Global, pieces: &[&str]) -> Network {
     network
 }
 
-/// The network of a scenario, which is given in pieces, does steps.
-pub fn plays(rt: &impl Abort, alloc: Global, pieces: &[&str], begin: &[Step], steps: &[Step]) {
+// The network of a scenario, which is given in pieces, does steps.
+fn plays(rt: &impl Abort, alloc: Global, pieces: &[&str], begin: &[Step], steps: &[Step]) {
     let mut network = network_of(rt, alloc, pieces);
     play(rt, alloc, &mut network, begin);
     play(rt, alloc, &mut network, steps);
@@ -349,4 +352,11 @@ pub fn plays(rt: &impl Abort, alloc: Global, pieces: &[&str], begin: &[Step], st
     let trace = network.into_trace();
     assert!(rt; trace.len() == entries);
     drop(trace);
+}
+
+/// Networks do these runs, each from the beginning.
+pub fn plays_all(rt: &impl Abort, alloc: Global, runs: &[Run]) {
+    for (pieces, begin, steps) in runs.iter() {
+        plays(rt, alloc, pieces, begin, steps);
+    }
 }
