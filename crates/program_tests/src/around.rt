@@ -85,6 +85,11 @@ pub fn section<'a>(text: &'a str, mark: &str) -> Option<&'a str> {
     }
 }
 
+/// This is so, or the test ends with these words. Tests ask it by this one call, since each `assert!` takes long to prove.
+pub fn holds(rt: &impl Abort, is_so: bool, words: &str) {
+    assert!(rt; is_so, "{words}");
+}
+
 // The section of a row, or of what lies around it.
 fn text_in<'a>(row: &Row<'a>, mark: &str) -> Option<&'a str> {
     section(row.text, mark)
@@ -324,11 +329,13 @@ fn told_of<'a>(rt: &impl Abort, row: &Row<'a>) -> (u8, &'a str) {
 fn difference(rt: &impl Abort, alloc: Global, row: &Row<'_>, finish: &Finish) -> &'static str {
     let (status, told) = told_of(rt, row);
     let entries = finish.trace().len();
+    let is_told = is_told(rt, alloc, &finish.outcome, told);
+    let wanted = number_of(rt, row, "\n: entries ", entries);
     if finish.status != status {
         "status"
-    } else if !is_told(rt, alloc, &finish.outcome, told) {
+    } else if !is_told {
         "told"
-    } else if number_of(rt, row, "\n: entries ", entries) != entries {
+    } else if wanted != entries {
         "entries"
     } else {
         ""
@@ -373,9 +380,11 @@ fn difference_with(
     sink: &mut MemSink,
 ) -> &'static str {
     let (status, difference) = end_with(rt, alloc, row, sink);
-    if !is_taken(rt, alloc, sink.taken(), row, room) {
+    let is_taken = is_taken(rt, alloc, sink.taken(), row, room);
+    let faults = sink.faults();
+    if !is_taken {
         "taken"
-    } else if sink.faults() != u64::from(status == 4) {
+    } else if faults != u64::from(status == 4) {
         "faults"
     } else {
         difference
@@ -448,7 +457,7 @@ pub fn lines_play(rt: &impl Abort, alloc: Global, given: &str, table: &str) {
         let line = line.trim();
         match line.split_once(" -> ") {
             Some((call, ending)) => line_plays(rt, alloc, given, call, ending),
-            None => assert!(rt; line.is_empty() || line.ends_with('.'), "{line}"),
+            None => holds(rt, line.is_empty() || line.ends_with('.'), line),
         }
     }
 }

@@ -184,7 +184,7 @@ const CROWDED_CAPTURE: &str = r#"
 : told 7 vplsnet: stopped: Crowded 65536 65542
 "#;
 
-// As many copies of one packet.
+// As many copies of one packet, and what is done behind them no more.
 const COPIED: &str = r#"
 : words tables f
 : opening version = 1
@@ -222,19 +222,19 @@ vccv = 1
 "#;
 
 const CROWDED_COPY: &str = r#"
-= Neither a further copy is done,
+= A further copy.
 : back , "again 1"
 : told 7 vplsnet: stopped: Crowded 65536 65542
 "#;
 
 const CROWDED_PING: &str = r#"
-= nor a ping,
+= A ping.
 : back , "ping a w"
 : told 7 vplsnet: stopped: Crowded 65536 65542
 "#;
 
 const CROWDED_ARRIVAL: &str = r#"
-= nor an arrival.
+= An arrival.
 : back , "arrive 1"
 : told 7 vplsnet: stopped: Crowded 65536 65542
 "#;

@@ -1,5 +1,6 @@
 //! The texts of a scenario's faults: the program tells each by its own text, and what it names behind it.
 
+use crate::around::holds;
 use net_base::{Place, PlanFault, Table, Text};
 use psn_net::NetStop;
 use scenario_text::ScenarioFault;
@@ -17,7 +18,7 @@ fn is_line(rt: &impl Abort, alloc: Global, fault: &ScenarioFault, text: &str) ->
 // The program tells the fault by the fault's own text, and these words behind it.
 fn is_told(rt: &impl Abort, alloc: Global, fault: &ScenarioFault, rest: &str) {
     let text = format!(in alloc; "vplsnet: scenario: {fault}{rest}").expect(rt, "memory");
-    assert!(rt; is_line(rt, alloc, fault, text.as_str()));
+    holds(rt, is_line(rt, alloc, fault, text.as_str()), text.as_str());
 }
 
 // The key `name` of the second edge.
@@ -32,7 +33,7 @@ fn place(rt: &impl Abort) -> Place {
 // The text of what stopped a network.
 fn says(rt: &impl Abort, alloc: Global, stop: &NetStop, words: &str) {
     let text = format!(in alloc; "{stop}").expect(rt, "memory");
-    assert!(rt; text.as_str() == words);
+    holds(rt, text.as_str() == words, words);
 }
 
 const CROWDED: NetStop = NetStop::Crowded {

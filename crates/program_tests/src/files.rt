@@ -1,7 +1,7 @@
 //! Whole files and whole texts over a shelf and a sink in memory.
 
-use crate::around::{shelf_of, sink_of};
-use net_base::{Failed, MemShelf, Shelf, Sink};
+use crate::around::{holds, shelf_of, sink_of};
+use net_base::{Failed, MemShelf, MemSink, Shelf, Sink};
 use std::alloc::Global;
 use std::process::Abort;
 use vplsnet::{ReadStop, read_file, write_text};
@@ -86,14 +86,21 @@ fn counts(shelf: &MemShelf, read: &Read) -> bool {
     shelf.faults(read.name) == faults && (read.name == "f" || shelf.faults("f") == 0)
 }
 
-// The file is read so.
-fn reads(rt: &impl Abort, alloc: Global, read: &Read) {
-    let mut shelf = shelf_for(rt, alloc, read);
-    let length = match read_file(alloc, &mut shelf, read.name, read.limit as usize) {
+// Whether the file is read so.
+fn is_read(alloc: Global, shelf: &mut MemShelf, read: &Read) -> bool {
+    let length = match read_file(alloc, shelf, read.name, read.limit as usize) {
         Ok(octets) => Ok(octets.len()),
         Err(stop) => Err(stop),
     };
-    assert!(rt; length == read.want && counts(&shelf, read));
+    length == read.want && counts(shelf, read)
+}
+
+// The file is read so.
+fn reads(rt: &impl Abort, alloc: Global, read: &Read) {
+    let mut shelf = shelf_for(rt, alloc, read);
+    let is_read = is_read(alloc, &mut shelf, read);
+    drop(shelf);
+    holds(rt, is_read, read.name);
 }
 
 #[test]
@@ -109,12 +116,19 @@ static WRITES: [(usize, Result<(), Failed>, &str); 2] = [
     (3, Err(Failed), "abc"),
 ];
 
-// A sink with this room answers so, takes so much, and counts a fault where it fails.
+// Whether a sink answers so, takes so much, and counts a fault where it fails.
+fn takes(sink: &mut MemSink, want: Result<(), Failed>, taken: &str) -> bool {
+    let answer = write_text(sink, b"abcdef");
+    let faults = u64::from(want.is_err());
+    answer == want && sink.taken() == taken.as_bytes() && sink.faults() == faults
+}
+
+// A sink with this room takes so much.
 fn writes(rt: &impl Abort, alloc: Global, room: usize, want: Result<(), Failed>, taken: &str) {
     let mut sink = sink_of(rt, alloc, room, 0);
-    let answer = write_text(&mut sink, b"abcdef");
-    assert!(rt; answer == want && sink.taken() == taken.as_bytes());
-    assert!(rt; sink.faults() == u64::from(want.is_err()));
+    let takes = takes(&mut sink, want, taken);
+    drop(sink);
+    holds(rt, takes, taken);
 }
 
 #[test]

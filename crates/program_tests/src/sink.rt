@@ -1,5 +1,6 @@
 //! A writer that takes little, and that signals interrupt.
 
+use crate::around::holds;
 use net_base::{Failed, Sink};
 use std::io;
 use std::io::{ErrorKind, Write};
@@ -55,7 +56,7 @@ fn takes(rt: &impl Abort, sink: &mut StdSink<Narrow<'_>>, (octets, want, faults)
         Want::Write(want) => sink.write(octets.as_bytes()) == want,
         Want::Text(want) => write_text(sink, octets.as_bytes()) == want,
     };
-    assert!(rt; agrees && sink.faults() == faults, "{octets}");
+    holds(rt, agrees && sink.faults() == faults, octets);
 }
 
 // A sink over a writer with room for eight octets takes these steps.
@@ -75,6 +76,6 @@ fn takes_all(rt: &impl Abort, taken: &mut Vec<u8>, steps: &[Step]) {
 fn takes_pieces_until_there_is_no_room(rt: HostRuntime) {
     let mut taken = Vec::new(rt.alloc());
     takes_all(&rt, &mut taken, STEPS.as_slice());
-    assert!(rt; taken.as_slice() == b"abcdefgh".as_slice());
+    holds(&rt, taken.as_slice() == b"abcdefgh".as_slice(), "abcdefgh");
     drop(taken);
 }
