@@ -1,11 +1,9 @@
-//! What the benches ask of an edge, and of a bridge and a table alone. Words follow the program's name, and each three of them are done in
-//! turn. It ends with 1 where one of them is not done.
+//! What the benches ask of an edge. Words follow the program's name, and each three of them are done in turn. It ends with 1 where one of
+//! them is not done.
 //!
 //! - `cases SCENARIO INPUTS`, for `bench/soak`: one edge over a link in memory takes the inputs of a file, and each is printed with what the
 //!   edge gives out.
 //! - `hear COUNT PIECES`, for `bench/hear`: an edge hears pieces of its neighbour of so many KeepAlives each; how many it heard.
-//! - `decide HELD ROUNDS`, `look HELD ROUNDS` and `age HELD ROUNDS`, for `bench/learning`: frames at one bridge between so many stations, and
-//!   the same work on a map alone; how many left by its first port. Addresses that age out of a table; how many it holds then.
 #![tactic(auto)]
 
 mod case;
@@ -13,14 +11,11 @@ mod cases;
 mod effect;
 mod hearing;
 mod input;
-mod learning;
 mod names;
 
 use cases::print_cases;
 use command_text::is_same;
 use hearing::heard_in_pair;
-use learning::{all_age, all_decide, all_look_up};
-use std::alloc::Global;
 use std::env;
 use std::env::Args;
 use std::process::ExitCode;
@@ -68,10 +63,10 @@ fn is_done(rt: &HostRuntime, asked: &[String]) -> Option<()> {
         [what, one, two] if is_same(what.as_str(), "cases") => {
             print_cases(rt, one.as_str(), two.as_str())
         }
-        [what, one, two] => {
-            let (held, rounds) = (number_of(one.as_str())?, number_of(two.as_str())?);
-            let count = counted(rt.alloc(), what.as_str(), held, rounds)?;
-            println!(rt; "{count}").ok()
+        [what, one, two] if is_same(what.as_str(), "hear") => {
+            let (count, pieces) = (number_of(one.as_str())?, number_of(two.as_str())?);
+            let heard = heard_in_pair(rt.alloc(), count, pieces)?;
+            println!(rt; "{heard}").ok()
         }
         _ => None,
     }
@@ -80,19 +75,4 @@ fn is_done(rt: &HostRuntime, asked: &[String]) -> Option<()> {
 // The number of a word.
 fn number_of(word: &str) -> Option<u32> {
     word.parse::<u32>().ok()
-}
-
-// Does so many rounds of what a word asks, and answers what it counted.
-fn counted(alloc: Global, what: &str, held: u32, rounds: u32) -> Option<u64> {
-    if is_same(what, "hear") {
-        heard_in_pair(alloc, held, rounds)
-    } else if is_same(what, "decide") {
-        all_decide(alloc, held, rounds)
-    } else if is_same(what, "look") {
-        all_look_up(alloc, held, rounds)
-    } else if is_same(what, "age") {
-        all_age(alloc, held, rounds)
-    } else {
-        None
-    }
 }
